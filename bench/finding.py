@@ -4,7 +4,8 @@ search and of its solver.
 
     python3 bench/finding.py [FILE..]     these elections in the place of the invented ones
     python3 bench/finding.py --different  invented ones of 100 projects and up to 100,000 voters whose ballots all differ:
-                                          prices or else a refutation, without Cover and with it, on two processors
+                                          prices or else a refutation, plain and stable, without Cover and with it, on
+                                          two processors
 
 The library or the program has to be built, and scipy installed. The invented elections are Euclidean (voters and
 projects are points, and a voter approves what is near), clustered and random, with outcomes of greedy by votes, of
@@ -37,7 +38,8 @@ SEARCHES = [("prices", {"refutation": False, "violation": False}),
             ("refutation", {"prices": False, "violation": False}),
             ("violation", {"prices": False, "refutation": False})]
 DIFFERENT = (1_000, 10_000, 100_000)
-EITHER = [("without Cover", {"violation": False}), ("with Cover", {"violation": False, "cover": True})]
+EITHER = [(f"{form}, {word}", {"violation": False, "stable": form == "stable", "cover": word == "Cover"})
+          for form in ("plain", "stable") for word in ("any", "Cover")]
 
 
 def euclidean(chance, voters, projects):

@@ -34,7 +34,7 @@ PAGE = "<!DOCTYPE html>"
 # The files of each command. A third one is an outcome.
 FILES = {
     "read": ["e.pb"], "prices": ["e.pb", "p.csv"], "violation": ["e.pb", "v.csv", "o.csv"], "page": ["e.pb", "p.csv"],
-    "tidy": ["e.pb", "p.csv"],
+    "tidy": ["e.pb", "p.csv"], "groups": ["e.pb"],
 }  # fmt: skip
 
 Shape = collections.namedtuple("Shape", "work large small answers")
@@ -235,6 +235,18 @@ def many_voters(room, size, hostile):
     write(f"{room}/o.csv", b"pb-outcome,1\n")
 
 
+BITS = 20
+
+
+@shape(1_000_000, 1000, groups="failed EJR+ by cost voters {size} project c")
+def falling_gets(room, size, hostile):
+    """A million voters, each of whom got less than the one before; plain: more. They all want a project that isn't funded."""
+    costs = b"".join(b"b%d;%d;1\n" % (bit, 1 << bit) for bit in range(BITS))
+    gets = range(size - 1, -1, -1) if hostile else range(size)
+    voters = (b"v;" + b",".join([b"c", *(b"b%d" % bit for bit in range(BITS) if get >> bit & 1)]) + b"\n" for get in gets)
+    write(f"{room}/e.pb", HEAD.replace(b"budget;1", b"budget;%d" % (1 << BITS)), costs, b"c;1;0\n", VOTES, *voters)
+
+
 def names(size):
     return [b"p%05d" % number for number in range(size)]
 
@@ -278,7 +290,7 @@ import sys
 sys.path.insert(0, sys.argv[1])
 import pbaudit
 calls = {"read": pbaudit.read, "prices": pbaudit.audit_prices, "violation": pbaudit.audit_violation,
-         "page": pbaudit.page, "tidy": lambda *files: pbaudit.tidy(*files).decode()}
+         "page": pbaudit.page, "groups": pbaudit.audit_groups, "tidy": lambda *files: pbaudit.tidy(*files).decode()}
 print(calls[sys.argv[2]](*sys.argv[3:]))
 """
 

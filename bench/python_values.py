@@ -6,8 +6,9 @@ the best of three, and the greatest memory that is taken on top, beside the size
 
 The library or the program has to be built. Every voter approves 8 projects and pays an equal part of each that is
 funded, as whole numbers, as Fractions, as rational numbers of gmpy2, in matrices, and as floats with the noise of a
-solver. Then the Method of Equal Shares on an election of that size, as a function and as the command, and a folder of 500
-elections of 300 voters: in one process, by a pool, and by Dask where it is installed.
+solver. Calls on the two files are measured beside the program, by the time of a processor, the best of nine. Then the
+Method of Equal Shares on an election of that size, as a function and as the command, and a folder of 500 elections of
+300 voters: in one process, by a pool, and by Dask where it is installed.
 """
 import os
 import random
@@ -26,6 +27,7 @@ os.environ["PYTHONPATH"] = os.path.join(TOP, "python")
 import bench  # noqa: E402
 import pbaudit  # noqa: E402
 from pbaudit import Instance, Project  # noqa: E402
+from pbaudit._places import program  # noqa: E402
 
 APPROVALS, PAYMENT, BUDGET = bench.APPROVALS, 100, 1000
 ELECTIONS = 500
@@ -104,6 +106,40 @@ def measure_values(voters, projects):
     measure("price_certificate, whole numbers", lambda: pbaudit.price_certificate(*words, whole), files)
     measure("price_certificate, floats", lambda: pbaudit.price_certificate(*words, floats), files)
     measure("price_certificate, floats, stable", lambda: pbaudit.price_certificate(*words, floats, True), files)
+    measure_beside_the_program(election, made.file)
+
+
+def measure_beside_the_program(election, certificate):
+    """Calls on files, and the commands that answer the same."""
+    found = program()
+    if found is None:
+        print("          the program isn't built")
+        return
+    with tempfile.TemporaryDirectory() as room:
+        town, prices = f"{room}/town.pb", f"{room}/town.prices.csv"
+        for path, data in ((town, election), (prices, certificate)):
+            with open(path, "wb") as file:
+                file.write(data)
+        for name, call, words in (
+            ("read", lambda: pbaudit.read(town), ["read", town]),
+            ("audit_prices", lambda: pbaudit.audit_prices(town, prices), ["prices", town, prices]),
+            ("explain", lambda: pbaudit.explain(town, prices), ["explain", town, prices]),
+            ("audit_groups", lambda: pbaudit.audit_groups(town), ["groups", town]),
+        ):
+            both = [(worked_by(call), worked_by(lambda: subprocess.run([found, *words], capture_output=True, check=False)))
+                    for _ in range(9)]
+            own, other = min(mine for (mine, _), _ in both), min(its for _, (_, its) in both)
+            print(f"{own:7.3f} s, the program {other:7.3f} s, {own / other:4.2f} times  {name}", flush=True)
+
+
+def worked_by(work):
+    """For how many seconds a processor does some work in this process, and in those that it starts."""
+    def worked():
+        used = map(resource.getrusage, (resource.RUSAGE_SELF, resource.RUSAGE_CHILDREN))
+        return [each.ru_utime + each.ru_stime for each in used]
+    before = worked()
+    work()
+    return tuple(after - ahead for after, ahead in zip(worked(), before))
 
 
 def measure_rationals(instance, profile, funded, budget, payments, files):

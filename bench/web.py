@@ -1,16 +1,16 @@
 #!/usr/bin/env python3
 """Measures the page that audits in a browser, in Chromium, beside the program: the time of the same command on the same
-files, best of three in turns, and the greatest memory of the page's process. Then what many districts at once take, in
-Chromium and Firefox.
+files, best of three in turns, and the greatest memory of the page's process. Then how long it takes from the drop of the
+election alone until the answer on groups is to be seen; and what many districts at once take, in Chromium and Firefox.
 
     python3 bench/web.py PAGE PROGRAM [VOTERS PROJECTS]
     python3 bench/web.py PAGE PROGRAM --folder ELECTIONS
 
-PAGE is the pbaudit.html that ./pbaudit-web made. The elections are those of bench.py. What is timed of the page is its
+PAGE is the pbaudit.html that ./pbaudit-web made, beside pbaudit.wasm. The elections are those of bench.py. What is timed of the page is its
 worker: to start it, to read the files into the module's memory, and to check them. The program reads the files as well.
 With a size the districts are left out. With --folder it measures instead, without a browser, what a folder of so many
-small elections takes by the program and by the command of the package for JavaScript that is made of the page's module,
-each with its start, best of three in turns.
+small elections takes by the program and by the command of the package for JavaScript, each with its start, best of three
+in turns.
 """
 import os
 import pathlib
@@ -47,22 +47,35 @@ return (async () => {
   const worker = new Worker(URL.createObjectURL(script));
   const mode = {stable: false, exhaustive: true, cover: false};
   const files = {election: 0, certificate: sent[1] ? 1 : null, outcome: sent[2] ? 2 : null};
-  const order = {command, files, mode, language: 'en'};
-  let read = 0;
+  const order = {command, files, mode, language: 'en', isEarly: true};
+  let read = 0, took = 0, answer = {};
   const ended = await new Promise((resolve, reject) => {
     worker.onerror = reject;
     worker.onmessage = ({data}) => {
       if (data.tells === 'ready') worker.postMessage({order, files: sent});
       if (data.tells === 'checking') read = performance.now() - began;
-      if (data.tells === 'done') resolve(data.ending);
+      if (data.tells === 'answer' || data.tells === 'done') took ||= performance.now() - began;
+      if (data.tells === 'answer') answer = data;
+      if (data.tells === 'done') resolve({...answer, ...data.ending});
     };
     worker.postMessage({module});
   });
   worker.terminate();
-  const took = performance.now() - began;
-  const text = ended.bytes ? new TextDecoder().decode(ended.bytes) : ended.text ?? `no answer: ${ended.why}`;
-  return [ended.status, read, took, text.slice(0, 1000).split('\\n')[0]];
+  const isText = ended.text instanceof Uint8Array, text = isText ? new TextDecoder().decode(ended.text) : ended.line;
+  return [ended.status, read, took, (text ?? ended.text ?? `no answer: ${ended.why}`).slice(0, 1000).split('\\n')[0]];
 })();
+"""
+# Notes how many milliseconds after a drop the answer on groups is to be seen by cost, and by count.
+WATCH = """
+const shown = document.querySelector('#on-groups'), counted = document.querySelector('#on-groups-count-tags');
+let began = 0;
+window.took = [0, 0];
+document.addEventListener('drop', () => { began = performance.now(); }, true);
+const note = at => requestAnimationFrame(() => setTimeout(() => { window.took[at] ||= performance.now() - began; }));
+new MutationObserver(() => {
+  if (!shown.hidden) note(0);
+  if (!shown.hidden && !counted.hidden) note(1);
+}).observe(document.querySelector('main'), {subtree: true, attributes: true, attributeFilter: ['hidden']});
 """
 # Leaves the files that are chosen to the script above.
 IGNORE = """
@@ -114,6 +127,31 @@ def measure(page, program, voters, projects):
             browser.close()
 
 
+def seconds_to_the_answer(page, election, room):
+    """By cost and by count, in a new browser that has had time to warm up."""
+    browser = browsers.Chromium(room / "profile", room)
+    try:
+        browser.resize(*SCREEN)
+        browser.go(pathlib.Path(page).resolve().as_uri())
+        time.sleep(SECONDS_TO_WARM_UP)
+        browser.ask(WATCH)
+        browser.drop("#drop", election)
+        browser.wait("return window.took.every(Boolean)", "the answer on groups")
+        return [milliseconds / 1000 for milliseconds in browser.ask("return window.took")]
+    finally:
+        browser.close()
+
+
+def measure_first(page, voters, projects):
+    with tempfile.TemporaryDirectory() as room:
+        room = pathlib.Path(room)
+        bench.write_election(room / "e.pb", voters, projects)
+        tries = [seconds_to_the_answer(page, room / "e.pb", room) for _ in range(ROUNDS)]
+    first, whole = min(tries)
+    print(f"{voters} voters, {projects} projects, the election alone: from the drop the answer by cost takes {first:.2f} s, "
+          f"at most {max(tries)[0]:.2f} s, and that by count {whole:.2f} s (load {os.getloadavg()[0]:.1f})")  # fmt: skip
+
+
 def measure_districts(page, engine):
     """From the choice of a folder until the last answer stands in the list, the best of three."""
     wanted = browsers.ENGINES[engine][0]
@@ -148,9 +186,9 @@ def fill(folder, elections):
             (folder / f"e{number}{ending}").write_bytes(data)
 
 
-def javascript(page, program, room):
+def javascript(page, room):
     """The command of the package for JavaScript."""
-    words = [HERE.parent / "packaging/javascript", page, program, room]
+    words = [HERE.parent / "packaging/javascript", page, pathlib.Path(page).with_name("pbaudit.wasm"), room]
     subprocess.run(words, stdout=subprocess.DEVNULL, check=True)
     with tarfile.open(next(room.glob("*.tgz"))) as package:
         package.extractall(room)
@@ -160,7 +198,7 @@ def javascript(page, program, room):
 def measure_folder(page, program, elections):
     with tempfile.TemporaryDirectory() as room:
         room = pathlib.Path(room)
-        command, folder = javascript(page, program, room), room / "folder"
+        command, folder = javascript(page, room), room / "folder"
         fill(folder, elections)
         own, other = [], []
         for _ in range(ROUNDS):
@@ -182,6 +220,7 @@ def main():
         return
     for voters, projects in bench.sizes_of(words, given.size, SIZES):
         measure(given.page, given.program, voters, projects)
+        measure_first(given.page, voters, projects)
     if not given.size:
         for engine in browsers.ENGINES:
             measure_districts(pathlib.Path(given.page).resolve().as_uri(), engine)

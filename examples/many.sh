@@ -56,7 +56,7 @@ for name in "${names[@]}"; do
 done
 status=0
 "$program" folder "$work/names" "$@" > "$work/out" 2> "$work/err" || status=$?
-if [ "$status" != 0 ] || ! grep -q '^total 0 ' "$work/out"; then
+if [ "$status" != 0 ] || ! grep -Eq '^(total 0 |\{"elections":0,)' "$work/out"; then
     "$program" folder "$given" "$@"
     exit $?
 fi
@@ -99,8 +99,10 @@ else
     xargs -0 -n 1 -P "$jobs" bash -c "$audit" bash "$program" "$@" < "$work/queue"
 fi
 
-# The reports in order, and the sum of their totals.
-yes=0 no=0 refused=0
+# The reports in order, and the sum of their totals. A total has four numbers: elections, yes, no and refused, or, as JSON,
+# elections, no, refused, the version and yes.
+yes=0 no=0 refused=0 json=''
+! grep -q '^{' "$work/out" || json=yes
 for number in "${!elections[@]}"; do
     part=$work/parts/$number status=none
     read -r status < "$part.status"
@@ -113,10 +115,15 @@ for number in "${!elections[@]}"; do
             ;;
     esac
     head -n -1 "$part.out"
-    read -r _ _ _ y _ n _ r _ < <(tail -n 1 "$part.out")
+    read -r _ y n r last < <(tail -n 1 "$part.out" | tr -cs '0-9' ' ')
+    [ -z "$json" ] || { r=$n n=$y y=$last; }
     yes=$((yes + y)) no=$((no + n)) refused=$((refused + r))
 done > "$work/report"
-echo "total ${#elections[@]} elections $yes yes $no no $refused refused" >> "$work/report"
+if [ -n "$json" ]; then
+    echo "{\"elections\":${#elections[@]},\"kind\":\"total\",\"no\":$no,\"refused\":$refused,\"version\":1,\"yes\":$yes}"
+else
+    echo "total ${#elections[@]} elections $yes yes $no no $refused refused"
+fi >> "$work/report"
 status=0
 [ "$no" = 0 ] || status=1
 [ "$refused" = 0 ] || status=2

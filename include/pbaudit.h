@@ -52,12 +52,15 @@ enum {
     PBAUDIT_FEASIBLE = 1, PBAUDIT_EXHAUSTIVE, PBAUDIT_COVER, PBAUDIT_C1, PBAUDIT_C2, PBAUDIT_C3, PBAUDIT_C4, PBAUDIT_C5,
     PBAUDIT_S5,
     PBAUDIT_V1 = 11, PBAUDIT_V2, PBAUDIT_V3, PBAUDIT_V4,
-    PBAUDIT_U1 = 21, PBAUDIT_U2, PBAUDIT_U3
+    PBAUDIT_U1 = 21, PBAUDIT_U2, PBAUDIT_U3,
+    /* No group of voters falls short. The project is the one for which a group does. */
+    PBAUDIT_EJR_PLUS = 31
 };
 
 /* How an answer ends, in numbers, of which each is 0 where there is nothing to tell. After 2: which input is refused, the
  * number of its fault, and the record at which that stands, from 1, or 0. After 1: the first condition on prices that
- * fails; the first test of a violation, or of a refutation, that fails (of PBAUDIT_BOTH each of the two). */
+ * fails; the first test of a violation, or of a refutation, that fails (of PBAUDIT_BOTH each of the two), or
+ * PBAUDIT_EJR_PLUS. */
 typedef struct {
     uint32_t input, fault;
     uint64_t record;
@@ -70,28 +73,37 @@ enum {
     PBAUDIT_VIOLATION_FILE
 };
 
-/* What can be asked. Each is the command of the program of the same name.
+/* What can be asked. Each is the command of the program of the same name; those on groups are `groups`, `explain --groups`
+ * and `margins --groups`, by the two measures of --satisfaction.
  *
- *                      takes                                           result
- *   PBAUDIT_READ       the election                                    0, 2, 4
- *   PBAUDIT_PRICES     and outcome, price certificate, switches        0, 1, 2, 4
- *   PBAUDIT_VIOLATION  and outcome, violation certificate              0, 1, 2, 4
- *   PBAUDIT_REFUTATION and outcome, refutation                         0, 1, 2, 4
- *   PBAUDIT_BOTH       and outcome, price certificate, violation       0, 1, 2, 4
- *                      certificate, switches
- *   PBAUDIT_EXPLAIN    and outcome, any certificate, switches          0, 1, 2, 4
- *   PBAUDIT_MARGINS    and outcome, price certificate                  0, 2, 4
- *   PBAUDIT_TIDY       and price certificate                           0, 2, 4
+ *                                   takes                                           result
+ *   PBAUDIT_READ                    the election                                    0, 2, 4
+ *   PBAUDIT_PRICES                  and outcome, price certificate, switches        0, 1, 2, 4
+ *   PBAUDIT_VIOLATION               and outcome, violation certificate              0, 1, 2, 4
+ *   PBAUDIT_REFUTATION              and outcome, refutation, stable                 0, 1, 2, 4
+ *   PBAUDIT_BOTH                    and outcome, price certificate, violation       0, 1, 2, 4
+ *                                   certificate, switches
+ *   PBAUDIT_EXPLAIN                 and outcome, any certificate, switches          0, 1, 2, 4
+ *   PBAUDIT_MARGINS                 and outcome, price certificate                  0, 2, 4
+ *   PBAUDIT_TIDY                    and price certificate                           0, 2, 4
+ *   PBAUDIT_GROUPS_BY_COST          and outcome                                     0, 1, 2, 4
+ *   PBAUDIT_GROUPS_BY_COUNT         and outcome                                     0, 1, 2, 4
+ *   PBAUDIT_EXPLAIN_GROUPS_BY_COST  and outcome                                     0, 1, 2, 4
+ *   PBAUDIT_EXPLAIN_GROUPS_BY_COUNT and outcome                                     0, 1, 2, 4
+ *   PBAUDIT_GROUP_MARGINS_BY_COST   and outcome                                     0, 2, 4
+ *   PBAUDIT_GROUP_MARGINS_BY_COUNT  and outcome                                     0, 2, 4
  */
 enum {
     PBAUDIT_READ = 0, PBAUDIT_PRICES, PBAUDIT_VIOLATION, PBAUDIT_REFUTATION, PBAUDIT_BOTH, PBAUDIT_EXPLAIN,
-    PBAUDIT_MARGINS, PBAUDIT_TIDY
+    PBAUDIT_MARGINS, PBAUDIT_TIDY, PBAUDIT_GROUPS_BY_COST, PBAUDIT_GROUPS_BY_COUNT, PBAUDIT_EXPLAIN_GROUPS_BY_COST,
+    PBAUDIT_EXPLAIN_GROUPS_BY_COUNT, PBAUDIT_GROUP_MARGINS_BY_COST, PBAUDIT_GROUP_MARGINS_BY_COUNT
 };
 
 /* The answer to a question. What the question doesn't take isn't looked at, but no pointer may be null. The outcome is
- * that of an outcome file where has_outcome, and else the election's own, the column `selected`. stable asks for S5 in
- * place of C5, exhaustive for the condition Exhaustive (which the program asks for unless it is left out), and cover for
- * the condition Cover. */
+ * that of an outcome file where has_outcome, and else the election's own, the column `selected`. Of prices stable asks for
+ * S5 in place of C5, exhaustive for the condition Exhaustive (which the program asks for unless it is left out), and cover
+ * for the condition Cover. Of a refutation stable asks whether it refutes stable prices alone, where it doesn't refute
+ * all. */
 uint8_t pbaudit_answer(uint8_t question,
                        const uint8_t *election, size_t election_length,
                        const uint8_t *outcome, size_t outcome_length, bool has_outcome,
@@ -99,6 +111,36 @@ uint8_t pbaudit_answer(uint8_t question,
                        const uint8_t *violation, size_t violation_length,
                        bool stable, bool exhaustive, bool cover,
                        pbaudit_facts *facts, uint8_t *out, size_t room, size_t *needed);
+
+/* The answer to the same question as one JSON object, for programs: the line that the command prints with --json, which
+ * docs/JSON.md describes. Its `kind` is "election", "prices", "violation", "refutation", "both" or "groups", that of
+ * PBAUDIT_EXPLAIN by its certificate, and of a refusal "refusal". Margins, also of groups, and PBAUDIT_TIDY are no objects:
+ * of these the text is that of pbaudit_answer, also where a file is refused. The rest is as there, without facts. */
+uint8_t pbaudit_json(uint8_t question,
+                     const uint8_t *election, size_t election_length,
+                     const uint8_t *outcome, size_t outcome_length, bool has_outcome,
+                     const uint8_t *certificate, size_t certificate_length,
+                     const uint8_t *violation, size_t violation_length,
+                     bool stable, bool exhaustive, bool cover,
+                     uint8_t *out, size_t room, size_t *needed);
+
+/* All that is to be told of the answer to the same question, for programs; the files are read once, and one that is refused
+ * once more. The text has three parts, one behind the other:
+ * 1. a line, a JSON object of what stands beside the answer:
+ *      {"hint":null,"notes":["note: num_votes says 4 and there are 3"],"refusal":null}
+ *    `notes` are those that the program prints on standard error, or `read` among its lines. Where a file is refused,
+ *    `refusal` is the object of that, as of pbaudit_json, and `hint` what pbaudit_hint tells: {"line":5,"sentences":[..]},
+ *    with the line, or null, and a text for each sentence, or null where nothing is told;
+ * 2. the line of pbaudit_json, but not of margins, of groups or of prices, and of PBAUDIT_TIDY, which are no objects;
+ * 3. the text of pbaudit_answer.
+ * The rest is as for pbaudit_json. */
+uint8_t pbaudit_report(uint8_t question,
+                       const uint8_t *election, size_t election_length,
+                       const uint8_t *outcome, size_t outcome_length, bool has_outcome,
+                       const uint8_t *certificate, size_t certificate_length,
+                       const uint8_t *violation, size_t violation_length,
+                       bool stable, bool exhaustive, bool cover,
+                       uint8_t *out, size_t room, size_t *needed);
 
 /* A page in plain words about a certificate of any kind, as one HTML file in UTF-8, which ends in </html> and no LF.
  * The page shows the files by these names. language is a code: en, pl, de or fr; 3 where there is no such language. The
@@ -110,6 +152,16 @@ uint8_t pbaudit_answer_page(const uint8_t *election, size_t election_length,
                             const uint8_t *certificate, size_t certificate_length,
                             const uint8_t *certificate_name, size_t certificate_name_length,
                             bool stable, bool exhaustive, bool cover,
+                            const uint8_t *language, size_t language_length,
+                            pbaudit_facts *facts, uint8_t *out, size_t room, size_t *needed);
+
+/* A page in plain words about groups of voters that fall short, which needs no certificate: by counting if by_count, and
+ * otherwise by cost. 0 if none does, 1 if one does. The rest is as for pbaudit_answer_page. 0, 1, 2, 3 or 4. */
+uint8_t pbaudit_groups_page(const uint8_t *election, size_t election_length,
+                            const uint8_t *election_name, size_t election_name_length,
+                            const uint8_t *outcome, size_t outcome_length,
+                            const uint8_t *outcome_name, size_t outcome_name_length, bool has_outcome,
+                            bool by_count,
                             const uint8_t *language, size_t language_length,
                             pbaudit_facts *facts, uint8_t *out, size_t room, size_t *needed);
 
@@ -138,8 +190,8 @@ uint8_t pbaudit_groups(const uint8_t *election, size_t election_length,
  * violation certificate, 4 a certificate of any kind, 5 a refutation. number and record are the fault and the record of
  * the refusal, by its facts or its line. election is the one beside which the file was read, or an empty file with
  * has_election false. *line is the line of the file on which the refused record begins, from 1, or 0 where there is
- * none, as at the end of the file. The text has a sentence a line; one on another line of the file begins with
- * `line N: `. It is empty where no refusal has this number, or input is none of these. The words are for people and may
+ * none, as at the end of the file. The text has a sentence a line; each after the first that is about a line of the file
+ * begins with `line N: `. It is empty where no refusal has this number, or input is none of these. The words are for people and may
  * change. What is said above of files, out and *needed holds here too, and for *line what is said of *needed; after out
  * of memory, *line may be anything. 0 or 4. */
 uint8_t pbaudit_hint(uint8_t input, uint32_t number, uint64_t record,
@@ -189,6 +241,61 @@ static inline uint8_t pbaudit_refutation(const uint8_t *election, size_t electio
                           certificate_length, election, 0, false, false, false, &facts, out, room, needed);
 }
 
+/* The same, but weights that refute no prices whatever may still refute stable ones, those of pbaudit_prices with stable:
+ * then the text is `unpriceable stable`, or `unpriceable stable cover`. 0, 1, 2 or 4. */
+static inline uint8_t pbaudit_stable_refutation(const uint8_t *election, size_t election_length,
+                                                const uint8_t *outcome, size_t outcome_length, bool has_outcome,
+                                                const uint8_t *certificate, size_t certificate_length,
+                                                uint8_t *out, size_t room, size_t *needed) {
+    pbaudit_facts facts;
+    return pbaudit_answer(PBAUDIT_REFUTATION, election, election_length, outcome, outcome_length, has_outcome, certificate,
+                          certificate_length, election, 0, true, false, false, &facts, out, room, needed);
+}
+
+/* Whether no group of voters falls short, by cost: whether of any voters who all approve an unfunded project there is one
+ * for whom that project and the funded projects on the ballot cost more than the group's share of the limit. Else the text
+ * has the first project for which a group falls short, and how many voters the largest such group has. 0, 1, 2 or 4. */
+static inline uint8_t pbaudit_groups_by_cost(const uint8_t *election, size_t election_length,
+                                             const uint8_t *outcome, size_t outcome_length, bool has_outcome,
+                                             uint8_t *out, size_t room, size_t *needed) {
+    pbaudit_facts facts;
+    return pbaudit_answer(PBAUDIT_GROUPS_BY_COST, election, election_length, outcome, outcome_length, has_outcome, election,
+                          0, election, 0, false, false, false, &facts, out, room, needed);
+}
+
+/* The same by counting: what is compared with the share is the cost of the unfunded project, once, and once more for each
+ * funded project on the ballot. 0, 1, 2 or 4. */
+static inline uint8_t pbaudit_groups_by_count(const uint8_t *election, size_t election_length,
+                                              const uint8_t *outcome, size_t outcome_length, bool has_outcome,
+                                              uint8_t *out, size_t room, size_t *needed) {
+    pbaudit_facts facts;
+    return pbaudit_answer(PBAUDIT_GROUPS_BY_COUNT, election, election_length, outcome, outcome_length, has_outcome, election,
+                          0, election, 0, false, false, false, &facts, out, room, needed);
+}
+
+/* Whether no group falls short, by counting if by_count and otherwise by cost; behind an empty line the figures of one
+ * group: after a no the largest that falls short for the project that is named, and after a yes the one whose share of the
+ * limit covers most of what it needs: the text of `pbaudit explain --groups`. 0, 1, 2 or 4. */
+static inline uint8_t pbaudit_explain_groups(const uint8_t *election, size_t election_length,
+                                             const uint8_t *outcome, size_t outcome_length, bool has_outcome,
+                                             bool by_count, uint8_t *out, size_t room, size_t *needed) {
+    pbaudit_facts facts;
+    return pbaudit_answer(by_count ? PBAUDIT_EXPLAIN_GROUPS_BY_COUNT : PBAUDIT_EXPLAIN_GROUPS_BY_COST, election,
+                          election_length, outcome, outcome_length, has_outcome, election, 0, election, 0, false, false,
+                          false, &facts, out, room, needed);
+}
+
+/* The figures of one group for each unfunded project with a supporter, whether or not it falls short: the table of
+ * `pbaudit margins --groups`, as comma-separated values. 0, 2 or 4. */
+static inline uint8_t pbaudit_group_margins(const uint8_t *election, size_t election_length,
+                                            const uint8_t *outcome, size_t outcome_length, bool has_outcome,
+                                            bool by_count, uint8_t *out, size_t room, size_t *needed) {
+    pbaudit_facts facts;
+    return pbaudit_answer(by_count ? PBAUDIT_GROUP_MARGINS_BY_COUNT : PBAUDIT_GROUP_MARGINS_BY_COST, election,
+                          election_length, outcome, outcome_length, has_outcome, election, 0, election, 0, false, false,
+                          false, &facts, out, room, needed);
+}
+
 /* Prices, and a group with its demand, for one outcome: a line for each, that of the prices first. 0 where both are a yes,
  * else 1; or 2 or 4. */
 static inline uint8_t pbaudit_both(const uint8_t *election, size_t election_length,
@@ -204,8 +311,8 @@ static inline uint8_t pbaudit_both(const uint8_t *election, size_t election_leng
 
 /* The verdict on a certificate of any kind, an empty line, and what each condition on prices, or each test of a
  * violation or of a refutation, comes to: the table of `pbaudit explain`. A certificate that begins as a violation
- * certificate or as a refutation is taken as one, and then the switches don't matter; any other is taken as prices. 0, 1,
- * 2 or 4. */
+ * certificate or as a refutation is taken as one; of a violation the switches don't matter, and of a refutation stable
+ * alone does; any other is taken as prices. 0, 1, 2 or 4. */
 static inline uint8_t pbaudit_explain(const uint8_t *election, size_t election_length,
                                       const uint8_t *outcome, size_t outcome_length, bool has_outcome,
                                       const uint8_t *certificate, size_t certificate_length,

@@ -2,16 +2,20 @@
 no driver, through its own protocol, Marionette. Each starts with an empty profile."""
 import base64
 import json
+import os
 import pathlib
+import re
 import shutil
 import socket
 import subprocess
+import tempfile
 import time
 
 CHROMIUM = ("chromium", "chromium-browser", "google-chrome")
 FIREFOX = ("firefox-esr", "firefox")
-START_SECONDS, ANSWER_SECONDS = 60, 120
-# For how long a script may run, in milliseconds: also where the machine does other work.
+# How long a browser may take to start and to answer, also where the machine does other work.
+START_SECONDS, ANSWER_SECONDS = 120, 120
+# For how long a script may run, in milliseconds.
 TIMEOUTS = {"script": 1000 * ANSWER_SECONDS}
 ELEMENT = "element-6066-11e4-a52e-4f735466cecf"
 # Keys as WebDriver names them.
@@ -26,7 +30,7 @@ def program(names):
     return next(filter(None, map(shutil.which, names)), None)
 
 
-def until(ask, seconds, what):
+def until(ask, what, seconds=ANSWER_SECONDS):
     """Asks until the answer is true, and answers it."""
     end = time.monotonic() + seconds
     while time.monotonic() < end:
@@ -35,6 +39,20 @@ def until(ask, seconds, what):
             return told
         time.sleep(0.02)
     raise BrowserError(f"{what} took longer than {seconds} s")
+
+
+def driver(path):
+    """chromedriver at a port that it chose itself. One that Selenium chooses for it may be another's by then."""
+    from selenium.webdriver.chrome.service import Service
+
+    class Driver(Service):
+        def start(self):
+            with tempfile.TemporaryFile() as told:
+                self.process = subprocess.Popen([self.path, "--port=0"], stdin=subprocess.DEVNULL, stdout=told, stderr=told)
+                found = until(lambda: re.search(rb"started successfully on port (\d+)", os.pread(told.fileno(), 1 << 16, 0)),
+                              "chromedriver", START_SECONDS)  # fmt: skip
+            self.port = int(found[1])
+    return Driver(path)
 
 
 class Browser:
@@ -75,11 +93,25 @@ class Browser:
         found = {"id": self.find(selector)}
         return self.command("GetComputedRole", found), self.command("GetComputedLabel", found)
 
-    def wait(self, script, what, seconds=ANSWER_SECONDS):
-        return until(lambda: self.ask(script), seconds, what)
+    def wait(self, script, what, *words):
+        return until(lambda: self.ask(script, *words), what)
+
+    def wait_for_another(self, script, what):
+        """Waits for a page that takes the place of this one, which answers nothing in between."""
+        def asked():
+            try:
+                return self.ask(script)
+            except BrowserError:
+                return None
+        return until(asked, what)
+
+    def settle(self):
+        """Waits until the page is laid out anew, and has heard of it, after its screen has changed."""
+        self.ask("return new Promise(done => requestAnimationFrame(() => requestAnimationFrame(() => setTimeout(() => done(true)))))")
 
     def resize(self, width, height):
-        self.command("SetWindowRect", {"width": width, "height": height})
+        """The place and the size that the window has then."""
+        return self.command("SetWindowRect", {"width": width, "height": height})
 
     def picture(self, path):
         pathlib.Path(path).write_bytes(base64.b64decode(self.command("TakeScreenshot", {"full": False})))
@@ -99,7 +131,6 @@ class Chromium(Browser):
 
     def __init__(self, folder, downloads, language="en", has_wasm=True, words=()):
         from selenium import webdriver
-        from selenium.webdriver.chrome.service import Service
         options = webdriver.ChromeOptions()
         options.binary_location = program(CHROMIUM)
         for word in ("--headless=new", "--no-sandbox", "--disable-gpu", "--disable-dev-shm-usage", f"--user-data-dir={folder}",
@@ -109,7 +140,7 @@ class Chromium(Browser):
         options.add_experimental_option("prefs", settings)
         options.set_capability("goog:loggingPrefs", {"performance": "ALL"})
         options.set_capability("timeouts", TIMEOUTS)
-        service = Service(shutil.which("chromedriver"))
+        service = driver(shutil.which("chromedriver"))
         self.driver = webdriver.Chrome(service=service, options=options)
         self.process = service.process
 
@@ -169,7 +200,7 @@ class Firefox(Browser):
         words = [program(FIREFOX), "--headless", "--no-remote", "--marionette", "--profile", str(folder)]
         self.process = subprocess.Popen(words, stdout=subprocess.DEVNULL, stderr=subprocess.DEVNULL)
         try:
-            self.socket = until(lambda: self.connected(folder / "MarionetteActivePort"), START_SECONDS, "Firefox")
+            self.socket = until(lambda: self.connected(folder / "MarionetteActivePort"), "Firefox", START_SECONDS)
             self.number, self.rest = 0, b""
             self.read()
             self.command("NewSession", {"capabilities": {"alwaysMatch": {}}})

@@ -73,12 +73,22 @@ def a_violation_check(chance, election_file=making.election_file):
 
 
 def a_refutation_check(chance, election_file=making.election_file):
-    town, weights = making.a_refutation(chance)
+    mode = ["--stable"] if chance.random() < 0.5 else []
+    town, weights = making.a_refutation(chance, bool(mode) and chance.random() < 0.8)
     plain = chance.random() < 0.4
     words, files = some_outcome(chance, town, plain)
     files["town.pb"] = election_file(chance, town, plain)
     files["claim.csv"] = making.refutation_file(chance, town, weights, plain)
-    return Case(["refutation", "town.pb", "claim.csv", *words], files)
+    return Case(["refutation", "town.pb", "claim.csv", *mode, *words], files)
+
+
+def a_groups_check(chance, election_file=making.election_file):
+    measure = chance.choice([None, "cost", "count", "count"])
+    town = making.short_group(chance, measure != "count")
+    plain = chance.random() < 0.4
+    words, files = some_outcome(chance, town, plain)
+    files["town.pb"] = election_file(chance, town, plain)
+    return Case(["groups", "town.pb", *(["--satisfaction", measure] if measure else []), *words], files)
 
 
 def a_tidying(chance):
@@ -144,8 +154,8 @@ def folder(chance):
 
 # How often each kind is made; the damaged ones are made of these.
 KINDS = {
-    a_read: 12, a_price_check: 38, a_violation_check: 14, a_refutation_check: 16, a_tidying: 6, both: 10, explain: 10,
-    folder: 8, margins: 10,
+    a_read: 12, a_price_check: 38, a_violation_check: 14, a_refutation_check: 24, a_groups_check: 20, a_tidying: 6, both: 10,
+    explain: 10, folder: 8, margins: 10,
 }  # fmt: skip
 DAMAGED = 0.5
 
@@ -173,7 +183,7 @@ def numbered(seed, number, kinds=None, damaged=DAMAGED):
 
 def without_folders(seed, number, damaged=DAMAGED):
     """A case of what the library answers too, in which standard input is a file of that name."""
-    case = numbered(seed, number, {kind: often for kind, often in KINDS.items() if kind is not folder}, damaged)
+    case = numbered(seed, number, {kind: often for kind, often in KINDS.items() if kind not in (folder, a_groups_check)}, damaged)
     return case if case.stdin is None else replace(case, words=["read", "stdin"], stdin=None)
 
 
@@ -203,6 +213,7 @@ def fixed_cases():
     asks = [
         ["read", "{town}"], ["prices", "{town}", "{claim}"], ["prices", "{town}", "{claim}", "--outcome", "{outcome}"],
         ["tidy", "{town}", "{claim}"], ["violation", "{town}", "{claim}", "--outcome", "{outcome}"],
+        ["groups", "{town}"], ["groups", "{town}", "--satisfaction", "count", "--outcome", "{outcome}"],
     ]  # fmt: skip
     for ask in asks:
         for bad in ("{town}", "{claim}", "{outcome}"):
@@ -212,6 +223,7 @@ def fixed_cases():
                     files = dict(good, huge=Sparse(2**28 + 1)) if put == "huge" else good
                     yield Case([word.format(**names) for word in ask], files, name=f"{put} as {bad[1:-1]} of {ask[0]}")
     yield from refutations()
+    yield from groups()
     yield from explained_on_groups()
     for name, old, news in LIMITS:
         for new in news:
@@ -219,6 +231,8 @@ def fixed_cases():
             yield Case(["prices", "town.pb", "claim.csv"], files, name=f"{new[:40]} for {old}")
     open_at_vote = ELECTION + b'v2;"a\nv3;a\n'
     yield Case(["read", "town.pb"], {"town.pb": open_at_vote}, name="a quote that nothing closes")
+    small = {"town.pb": ELECTION.replace(b"budget;10", b"budget;9"), "claim.csv": PRICES}
+    yield Case(["explain", "town.pb", "claim.csv"], small, name="explain where more was funded than the limit")
     for word in ("violation", "explain"):
         files = {"town.pb": ELECTION, "claim.csv": b"pb-violation,1\n"}
         yield Case([word, "town.pb", "claim.csv"], files, name=f"{word} of a group of nobody")
@@ -245,8 +259,16 @@ def explained_on_groups():
 
 
 def refutations():
-    """Those of the table, whose files get the names that they have here."""
-    for row, words, files in tables.asked("refutations.txt"):
+    return of_table("refutations.txt")
+
+
+def groups():
+    return of_table("groups.txt")
+
+
+def of_table(name):
+    """The cases of a table, whose files get the names that they have here."""
+    for row, words, files in tables.asked(name):
         names = dict(zip(files, ("town.pb", "claim.csv", "outcome.csv")))
         named = {names[name]: data for name, data in files.items()}
         yield Case([names.get(word, word) for word in words], named, name=f"{row.group}: {row.text.strip()}")

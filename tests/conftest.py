@@ -18,6 +18,8 @@ import tempfile
 
 import pytest
 
+import saying
+from cases import Case, write_files
 from common import HERE, TOP, needs, ran
 from helps import Helps
 
@@ -195,6 +197,19 @@ def room():
         yield pathlib.Path(folder)
 
 
+@pytest.fixture(params=["reference", pytest.param("program", marks=pytest.mark.built)])
+def ask(request, room):
+    """Answers a command on files, by the reference and by the program: the text and the status."""
+    program = request.getfixturevalue("program") if request.param == "program" else None
+
+    def asked(words, files):
+        case = Case(words, files)
+        write_files(room, files)
+        said = saying.run(program, case, room) if program else saying.reference_says(case, room)
+        return said.text.decode(), said.status
+    return asked
+
+
 @pytest.fixture(scope="session")
 def run(program):
     """Runs the program by words, in a folder, and gives its status, standard output and standard error."""
@@ -214,6 +229,13 @@ def auditor(library):
     """The library, called as the Python package calls it."""
     from pbaudit import _auditor
     return _auditor._Library(str(library / "libpbaudit.so.1"))
+
+
+@pytest.fixture(scope="session")
+def c_library(library):
+    """The library by its other calls."""
+    import c_library
+    return c_library.Library(library / "libpbaudit.so.1")
 
 
 @pytest.fixture(scope="session")

@@ -5,6 +5,9 @@ import re
 
 from common import ran
 
+# Words of a usage line that stand for no file.
+NO_FILES = ("OPTIONS", "COMMAND")
+
 
 def section(text, heading):
     match = re.search(rf"^{heading}:\n((?:  .*\n)+)", text, re.MULTILINE)
@@ -26,7 +29,7 @@ def inputs_in(text):
     """The files that a command reads, by its help text: its arguments, and an outcome where it has that option."""
     usage = re.search(r"^Usage: (.*)$", text, re.MULTILINE)[1]
     outcome = ["outcome"] if "--outcome" in option_words(text) else []
-    return [word.lower() for word in re.findall(r"<(\w+)>", usage)] + outcome
+    return [word.lower() for word in re.findall(r"[<\[](\w+)[>\]]", usage) if word not in NO_FILES] + outcome
 
 
 def statuses_in(text):

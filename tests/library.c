@@ -2,9 +2,11 @@
 
    library once COMMAND SWITCHES ELECTION [CERTIFICATE [OUTCOME]]
    library once both SWITCHES ELECTION PRICES VIOLATION [OUTCOME]
+   library once groups_by_cost SWITCHES ELECTION [OUTCOME], and groups_by_count, explain_groups_by_cost and so on
    library once note SWITCHES ELECTION CERTIFICATE
    library once groups SWITCHES ELECTION CERTIFICATE
    library once hint INPUT:NUMBER:RECORD FILE [ELECTION]
+   library once report-COMMAND ..  the same of pbaudit_report
                      prints the text, and ends with the status; each buffer is as large as it has to be, and no larger.
                      It calls the functions of the header that have names of commands
    library facts ..  calls pbaudit_answer, as those below do, and prints the bytes of its facts ahead of the text
@@ -51,9 +53,11 @@ void __wrap_free(void *old) {
 }
 
 static struct { uint8_t *at; size_t length; } files[4];
-static int given, by_number;
+static int given, by_number, as_report;
 static const char *command, *switches;
-static const char *const questions[] = {"read", "prices", "violation", "refutation", "both", "explain", "margins", "tidy"};
+static const char *const questions[] = {"read", "prices", "violation", "refutation", "both", "explain", "margins", "tidy",
+                                        "groups_by_cost", "groups_by_count", "explain_groups_by_cost",
+                                        "explain_groups_by_count", "group_margins_by_cost", "group_margins_by_count"};
 static pbaudit_facts facts;
 static uint8_t *out;
 static size_t room, needed;
@@ -71,28 +75,41 @@ static void call_hint(void) {
     status = pbaudit_hint((uint8_t)input, number, record, IN(0), IN(1), given == 2, &line, OUT);
 }
 
+static uint8_t refuted(int has_outcome) {
+    int is_stable = strchr(switches, 's') != 0;
+    return (is_stable ? pbaudit_stable_refutation : pbaudit_refutation)(IN(0), IN(2), has_outcome, IN(1), OUT);
+}
+
 static void call(void) {
-    int outcome = strcmp(command, "both") ? 2 : 3, has_outcome = given == outcome + 1;
     uint8_t question = PBAUDIT_READ;
-    while (question <= PBAUDIT_TIDY && strcmp(command, questions[question]))
+    while (question <= PBAUDIT_GROUP_MARGINS_BY_COUNT && strcmp(command, questions[question]))
         question++;
+    int outcome = question == PBAUDIT_BOTH ? 3 : question >= PBAUDIT_GROUPS_BY_COST ? 1 : 2, has_outcome = given == outcome + 1;
     if (!strcmp(command, "hint"))
         call_hint();
     else if (!strcmp(command, "note"))
         status = pbaudit_note(IN(0), IN(1), OUT);
     else if (!strcmp(command, "groups"))
         status = pbaudit_groups(IN(0), IN(1), strchr(switches, 'e') != 0), needed = 0;
+    else if (as_report)
+        status = pbaudit_report(question, IN(0), IN(outcome), has_outcome, IN(1), IN(2), MODE, OUT);
     else if (by_number)
         status = pbaudit_answer(question, IN(0), IN(outcome), has_outcome, IN(1), IN(2), MODE, &facts, OUT);
     else switch (question) {
         case PBAUDIT_READ: status = pbaudit_read(IN(0), OUT); break;
         case PBAUDIT_PRICES: status = pbaudit_prices(IN(0), IN(2), has_outcome, IN(1), MODE, OUT); break;
         case PBAUDIT_VIOLATION: status = pbaudit_violation(IN(0), IN(2), has_outcome, IN(1), OUT); break;
-        case PBAUDIT_REFUTATION: status = pbaudit_refutation(IN(0), IN(2), has_outcome, IN(1), OUT); break;
+        case PBAUDIT_REFUTATION: status = refuted(has_outcome); break;
         case PBAUDIT_BOTH: status = pbaudit_both(IN(0), IN(3), has_outcome, IN(1), IN(2), MODE, OUT); break;
         case PBAUDIT_EXPLAIN: status = pbaudit_explain(IN(0), IN(2), has_outcome, IN(1), MODE, OUT); break;
         case PBAUDIT_MARGINS: status = pbaudit_margins(IN(0), IN(2), has_outcome, IN(1), OUT); break;
-        default: status = pbaudit_tidy(IN(0), IN(1), OUT);
+        case PBAUDIT_TIDY: status = pbaudit_tidy(IN(0), IN(1), OUT); break;
+        case PBAUDIT_GROUPS_BY_COST: status = pbaudit_groups_by_cost(IN(0), IN(1), has_outcome, OUT); break;
+        case PBAUDIT_GROUPS_BY_COUNT: status = pbaudit_groups_by_count(IN(0), IN(1), has_outcome, OUT); break;
+        case PBAUDIT_EXPLAIN_GROUPS_BY_COST: status = pbaudit_explain_groups(IN(0), IN(1), has_outcome, false, OUT); break;
+        case PBAUDIT_EXPLAIN_GROUPS_BY_COUNT: status = pbaudit_explain_groups(IN(0), IN(1), has_outcome, true, OUT); break;
+        case PBAUDIT_GROUP_MARGINS_BY_COST: status = pbaudit_group_margins(IN(0), IN(1), has_outcome, false, OUT); break;
+        default: status = pbaudit_group_margins(IN(0), IN(1), has_outcome, true, OUT);
     }
 }
 
@@ -120,7 +137,9 @@ static void load(int at, const char *path) {
 
 static int has_told(pbaudit_facts wanted) { return !memcmp(&facts, &wanted, sizeof facts); }
 
-static int tells_facts(void) { return strcmp(command, "note") && strcmp(command, "hint") && strcmp(command, "groups"); }
+static int tells_facts(void) {
+    return !as_report && strcmp(command, "note") && strcmp(command, "hint") && strcmp(command, "groups");
+}
 
 static void fail_each(void) {
     pbaudit_facts told = facts, untold = tells_facts() ? (pbaudit_facts){0} : told;
@@ -167,7 +186,8 @@ int main(int count, char **words) {
     static uint8_t none;
     if (count < 5)
         return 3;
-    command = words[2], switches = words[3], by_number = strcmp(words[1], "once") != 0;
+    as_report = !strncmp(words[2], "report-", 7);
+    command = words[2] + (as_report ? 7 : 0), switches = words[3], by_number = strcmp(words[1], "once") != 0;
     memset(&facts, 0xaa, sizeof facts);
     files[1].at = files[2].at = files[3].at = &none;
     for (given = 0; given < count - 4 && given < 4; given++)

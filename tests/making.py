@@ -6,6 +6,7 @@ are made so that all conditions hold, often with nothing to spare, since a rule 
 there.
 """
 import re
+from bisect import bisect_left
 from dataclasses import dataclass
 from math import gcd
 
@@ -215,9 +216,38 @@ def a_violation(chance):
     return town, group, demand
 
 
-def a_refutation(chance):
-    """A town, and weights that often refute its outcome, with nothing to spare."""
-    town, weights = (share_that_is_enough if chance.random() < 0.3 else balanced)(chance)
+def short_group(chance, by_cost):
+    """A town, and a limit by which a group's share is mostly just what it needs for an unfunded project, and sometimes a
+    little less."""
+    voters, projects = a_size(chance)
+    ids = some_ids(chance, projects)
+    projects, scale = len(ids), chance.choice([1, 1, 100, MILLION, 10**9 * MILLION])
+    funded = {place for place in range(projects) if chance.random() < 0.5}
+    # What is funded mostly costs more, so that it matters who got it.
+    most = chance.choice([3, 20])
+    costs = [chance.randrange(20 if place in funded else most) * scale for place in range(projects)]
+    town = Town(ids, costs, 0, funded, some_ballots(chance, ids, voters))
+    limits = [[*enough(town, place, by_cost)] for place in range(projects) if place not in town.funded]
+    # By these, some supporters fall short and not all.
+    parts = [limit for each in limits for at, limit in enumerate(each[:-1]) if limit < min(each[at + 1:])]
+    choices = sorted(parts if parts and chance.random() < 0.8 else sum(limits, [])) or [10 * scale]
+    limit = choices[min(len(choices) - 1, chance.choice([0, 0, 1, chance.randrange(len(choices))]))]
+    town.limit = min(MOST_COST, max(0, limit + chance.choice([0, 0, 0, 0, -1, -1, 1, -scale, scale])))
+    return town
+
+
+def enough(town, place, by_cost):
+    """The limits by which the share of so many supporters of a project, who got least, is just what they need for it."""
+    gots = sorted(sum(town.costs[each] if by_cost else 1 for each in ballot & town.funded)
+                  for ballot in town.ballots if place in ballot)
+    for members, got in enumerate(gots, 1):
+        need = town.costs[place] + got if by_cost else town.costs[place] * (got + 1)
+        yield -(-len(town.ballots) * need // members)
+
+
+def a_refutation(chance, stable=False):
+    """A town, and weights that often refute its outcome, or stable prices for it, with nothing to spare."""
+    town, weights = share_that_is_enough(chance) if chance.random() < 0.3 else balanced(chance, stable)
     for _ in range(chance.choice([0, 0, 1, 1, 2])):
         nudge_weights(chance, town, weights)
     return town, weights
@@ -242,7 +272,7 @@ def share_that_is_enough(chance):
     return Town(ids, costs, limit, funded, ballots), Weights(len(group), signed)
 
 
-def balanced(chance):
+def balanced(chance, stable):
     """Any town, with weights, costs and a limit by which U2 and U3 mostly hold just so."""
     voters, projects = chance.randint(1, 9), chance.randint(1, 7)
     ids = some_ids(chance, projects)
@@ -252,36 +282,45 @@ def balanced(chance):
     signed = {place: chance.randint(-most if place in funded else 0, most) for place in range(projects)}
     town = Town(ids, [], 0, funded, some_ballots(chance, ids, voters))
     weights = Weights(0, signed)
-    settle_weights(chance, town, weights)
+    settle_weights(chance, town, weights, stable)
     scale = chance.choice([1, 100, MILLION, 10**9 * MILLION])
     town.costs, town.limit = [chance.randrange(20) * scale for _ in range(projects)], chance.randrange(100) * scale
     settle_costs(chance, town, weights)
     return town, weights
 
 
-def spare(town, weights):
+def spare(town, weights, stable):
     """By how much the weights that supporters have together are more than what counts against them, without Cover."""
     total = 0
     for ballot in town.ballots:
         left = sum(weights.signed.get(place, 0) for place in ballot - town.funded)
-        total += left - max([0, *(weights.signed.get(place, 0) + left for place in ballot & town.funded)])
+        total += left - counted([weights.signed.get(place, 0) + left for place in ballot & town.funded], left, stable)
     return total
 
 
-def settle_weights(chance, town, weights):
+def counted(worths, left, stable):
+    """What counts against what a voter has left: the most that a funded project of its ballot comes to. By stable prices
+    it is the least number such that what they come to above that together is no more than the number, and than what is left."""
+    most = max([0, *worths])
+    if not stable:
+        return most
+    return bisect_left(range(most), True, key=lambda x: sum(max(0, each - x) for each in worths) <= min(x, left))
+
+
+def settle_weights(chance, town, weights, stable):
     """Lowers the weights of funded projects until there is something to spare; then has Cover or one of them use it."""
     order = chance.sample(sorted(town.funded), len(town.funded))
     unfunded = sum(weight for place, weight in weights.signed.items() if place not in town.funded)
     for place in order:
-        if spare(town, weights) < 0:
+        if spare(town, weights, stable) < 0:
             weights.signed[place] = -unfunded
     if chance.random() < 0.5:
-        weights.cover = min(MOST_WEIGHT, spare(town, weights) // max(1, len(town.ballots)))
+        weights.cover = min(MOST_WEIGHT, spare(town, weights, stable) // max(1, len(town.ballots)))
         return
     for place in order[:1]:
         for step in (1 << bit for bit in range(36, -1, -1)):
             weights.signed[place] += step
-            if spare(town, weights) < 0:
+            if spare(town, weights, stable) < 0:
                 weights.signed[place] -= step
 
 

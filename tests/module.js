@@ -4,8 +4,9 @@
 
    node tests/module.js PAGE
 
-   A call has `command`, `files` (paths by what each is), `names`, `mode` and `language`, and a refusal a hint. `starve`
-   has the call made again and again with too little memory, where the module's memory never grows. */
+   A call has `command`, `files` (paths by what each is), `names`, `mode`, `measure` and `language`. An answer has what it says as
+   facts, the notes beside it, and of a refusal the hint. `starve` has the call made again and again with too little memory,
+   where the module's memory never grows. */
 const { execFileSync } = require("child_process"), fs = require("fs"), path = require("path");
 const readline = require("readline"), vm = require("vm");
 
@@ -17,36 +18,46 @@ function exportsOf(name) {
   return exported.exports;
 }
 
-const [{ Auditor }, { callOf }, { hintOn }] = ["auditor", "commands", "refusals"].map(exportsOf);
+const [{ Auditor }, { ABOUT_PAGE, isPage, pageCall, reportCall }, { saidBy }] = ["auditor", "commands", "says"].map(exportsOf);
 const page = fs.readFileSync(process.argv[2], "utf8");
 const [, written] = /<script type="text\/plain" id="module">(.*?)<\/script>/s.exec(page);
-const OUT_OF_MEMORY = 4, UNTOUCHED = 0xaa;
+const OUT_OF_MEMORY = 4, UNTOUCHED = 0xaa, ROOM = 1 << 22;
 // By how many bytes the memory that is left is raised.
 const STEP = 144;
 
 const module_ = new WebAssembly.Module(Buffer.from(written, "base64"));
 
-function questionOf(auditor, { files, names = {}, mode, language = "en" }) {
-  const asked = { mode, files: {}, names: {}, language: auditor.putText(language) };
+function questionOf(auditor, { files, names = {}, mode, measure = "cost", language = "en" }) {
+  const asked = { mode, measure, files: {}, names: {}, language: auditor.putText(language) };
   for (const [role, path] of Object.entries(files)) asked.files[role] = auditor.put(fs.readFileSync(path));
   for (const role of ["election", "outcome", "certificate"]) asked.names[role] = auditor.putText(names[role] ?? "");
   return asked;
 }
 
-function answer(call) {
-  const auditor = new Auditor(module_), asked = questionOf(auditor, call);
-  const { status, bytes, facts } = auditor.ask(call.command, asked, call.guess);
-  const hint = facts.fault && hintOn(auditor, call.command, asked, facts.fault);
-  return { status, text: Buffer.from(bytes).toString("base64"), facts, ...hint };
+/** What an answer says: a list, since that to `both` says two things, and a table says nothing. */
+function saysOf({ object }) {
+  if (!object) return [];
+  return object.kind === "both" ? [object.prices, object.violation].map(saidBy) : [saidBy(object)];
 }
+
+function answer(call) {
+  const auditor = new Auditor(module_), asked = questionOf(auditor, call), { command, guess } = call;
+  const reply = auditor.report(isPage(command) ? ABOUT_PAGE[command] : command, asked, guess);
+  const { status, bytes } = isPage(command) ? auditor.page(command, asked) : { status: reply.status, bytes: reply.text };
+  const { hint, notes } = reply.beside;
+  return { status, text: Buffer.from(bytes).toString("base64"), says: saysOf(reply), notes, ...hint };
+}
+
+/** The call that a command makes, of a page without what it says. */
+const rawCall = (auditor, command, asked) =>
+  isPage(command) ? pageCall(command, asked, auditor.room(40)) : reportCall(command, asked);
 
 /** How a call ends with so many bytes of memory left: out of memory with nothing written, as usual, or wrongly. */
 function endOf(call, left, usual) {
   const auditor = new Auditor(module_), asked = questionOf(auditor, call);
-  const out = auditor.room(usual.length), needed = auditor.room(8), facts = auditor.room(40);
+  const out = auditor.room(usual.length), needed = auditor.room(8), { name, words } = rawCall(auditor, call.command, asked);
   auditor.bytes(out).fill(UNTOUCHED);
   auditor.room(auditor.calls.memory.buffer.byteLength - Number(auditor.room(0).at) - left);
-  const { name, words } = callOf(call.command, asked, facts);
   const status = auditor.calls[name](...words, out.at, out.length, needed.at);
   const length = auditor.number(needed), written = Buffer.from(auditor.bytes(out));
   if (status === OUT_OF_MEMORY) return length === 0 && written.every(byte => byte === UNTOUCHED) ? "failed" : "wrong";
@@ -55,8 +66,9 @@ function endOf(call, left, usual) {
 
 /** Makes a call with less memory than it needs, so that each allocation fails: how often it ended in which way. */
 function starve(call) {
-  const { status, text } = answer(call), bytes = Buffer.from(text, "base64");
-  const usual = { status, text: bytes, length: bytes.length }, counts = { failed: 0, answered: 0, wrong: 0 };
+  const auditor = new Auditor(module_), asked = questionOf(auditor, call);
+  const { status, bytes } = auditor.call(rawCall(auditor, call.command, asked), ROOM);
+  const usual = { status, text: Buffer.from(bytes), length: bytes.length }, counts = { failed: 0, answered: 0, wrong: 0 };
   for (let left = 0; counts.answered < 20 && counts.wrong === 0; left += STEP) counts[endOf(call, left, usual)]++;
   return counts;
 }

@@ -1,10 +1,14 @@
-"""Cases for pages about certificates: elections with names and facts that others wrote, and figures of all sizes."""
+"""Cases for pages about certificates, and about groups that fall short: elections with names and facts that others wrote, and
+figures of all sizes."""
 import pathlib
 import random
 
 import making
 import tables
-from cases import Case, a_price_check, a_refutation_check, a_violation_check, random_case, refutations, some_mode, some_outcome
+from cases import (
+    Case, a_groups_check, a_price_check, a_refutation_check, a_violation_check, groups, random_case, refutations, some_mode,
+    some_outcome,
+)  # fmt: skip
 
 EXAMPLES = pathlib.Path(__file__).resolve().parent.parent / "examples"
 EXAMPLE_WORDS = [
@@ -171,10 +175,26 @@ def dressed_refutation(chance):
     return a_refutation_check(chance, dressed)
 
 
+def dressed_groups(chance):
+    return a_groups_check(chance, dressed)
+
+
+def muddled_groups(chance):
+    """Groups in an election with costs of all sizes, of which more or less is funded."""
+    town, claim = making.supported(chance, False)
+    muddle(chance, town, claim)
+    if chance.random() < 0.4:
+        town.funded = {place for place in town.funded if chance.random() < 0.5}
+    plain = chance.random() < 0.6
+    words, files = some_outcome(chance, town, plain)
+    measure = chance.choice([[], ["--satisfaction", "cost"], ["--satisfaction", "count"]])
+    return Case(["groups", "town.pb", *measure, *words], {"town.pb": dressed(chance, town, plain), **files})
+
+
 # How often each kind is made, and how often a file of it is damaged.
 KINDS = {
     dressed_prices: 6, close: 6, muddled: 8, dressed_violation: 8, dressed_refutation: 6, a_price_check: 2,
-    a_violation_check: 2, without_projects: 2,
+    a_violation_check: 2, without_projects: 2, dressed_groups: 8, muddled_groups: 5,
 }  # fmt: skip
 DAMAGED = 0.1
 
@@ -186,13 +206,19 @@ def page_case(seed, number):
 
 
 def renamed(chance, case, name):
-    """The case as one of `page`, its files under other names. The options of prices are ignored for the other kinds."""
+    """The case as one of `page`, its files under other names. The options of prices are ignored for other certificates."""
     named = {
         "town.pb": chance.choice(TOWNS), "claim.csv": chance.choice(CLAIMS), "outcome.csv": chance.choice(OUTCOMES),
     }  # fmt: skip
-    options = case.words[3:] + (some_mode(chance) if case.words[0] in ("violation", "refutation") else [])
+    if case.words[0] == "groups":
+        # The second file, where there is one, is an outcome.
+        named["claim.csv"] = named["outcome.csv"]
+        options, certificates = ["--groups", *case.words[2:]], []
+    else:
+        options = case.words[3:] + (some_mode(chance) if case.words[0] in ("violation", "refutation") else [])
+        certificates = [named["claim.csv"]]
     # What stands behind "--" is no option, as "-town.pb".
-    words = ["page", *(named.get(word, word) for word in options), "--", named["town.pb"], named["claim.csv"]]
+    words = ["page", *(named.get(word, word) for word in dict.fromkeys(options)), "--", named["town.pb"], *certificates]
     return Case(words, {named[file]: data for file, data in case.files.items()}, name=name)
 
 
@@ -210,6 +236,22 @@ def of_demand(count):
     town = making.Town([b"%d" % number for number in range(count)], [], 0, set(), [])
     case.files["claim.csv"] = making.violation_file(random.Random(count), town, {0}, set(range(count)), True)
     return Case(["violation", "town.pb", "claim.csv"], case.files)
+
+
+def of_groups(count):
+    """A case of so many projects of which a part is wanted, by groups of all sizes, some of which fall short."""
+    chance = random.Random(f"groups {count}")
+    ids = [b"%d" % number for number in range(count)]
+    costs = [(number * 7919 % 1009) * making.MILLION for number in range(count)]
+    ballots = [{place for place in range(count) if chance.random() < 0.4} for _ in range(7)]
+    town = making.Town(ids, costs, 2000 * making.MILLION, {0, 1}, ballots)
+    return Case(["groups", "town.pb"], {"town.pb": dressed(chance, town, True)})
+
+
+def of_unwanted(count):
+    """A case of so many projects that nobody wants, and one that is wanted."""
+    town = making.Town([b"%d" % number for number in range(count + 1)], [making.MILLION] * (count + 1), 0, set(), [{0}])
+    return Case(["groups", "town.pb", "--satisfaction", "count"], {"town.pb": dressed(random.Random(count), town, True)})
 
 
 def of_offers(count):
@@ -241,6 +283,7 @@ def of_members(count):
 LARGE = {
     "1001 unfunded": lambda: of_rows(1001, False), "1005 demanded": lambda: of_demand(1005),
     "1003 funded": lambda: of_rows(1003, True), "1000 unfunded": lambda: of_rows(1000, False),
+    "1050 projects with groups": lambda: of_groups(1050),
 }  # fmt: skip
 HEAD = b"META\nkey;value\nbudget;%d\nvote_type;approval\nPROJECTS\nproject_id;cost;selected\n"
 PRICES = b"pb-prices,1\ndenominator,1\nvoter_budget,4\nvoter,project,payment\n"
@@ -252,7 +295,18 @@ REACHED = {
     "budgets of the limit, one": (
         HEAD % 8 + b"a;4;1\nb;9;0\nVOTES\nvoter_id;vote\n1;a\n2;b\n", PRICES + b"1,a,4\n"),
 }  # fmt: skip
-IN_ONE_LANGUAGE = {"1003 funded": "pl", "1000 unfunded": "en"}
+IN_ONE_LANGUAGE = {"1003 funded": "pl", "1000 unfunded": "en", "1050 projects with groups": "de"}
+
+
+# Of groups, what is refused, and in which order: the election, and then the outcome.
+WITHOUT_FILES = {
+    "groups without an election": (["missing.pb"], {}),
+    "groups without an outcome file": (["--outcome", "missing.csv", "town.pb"], {}),
+    "groups without either": (["--outcome", "missing.csv", "missing.pb"], {}),
+    "groups with an empty outcome file": (["--outcome", "o.csv", "town.pb"], {"o.csv": b""}),
+    "groups of an empty election": (["e.pb"], {"e.pb": b""}),
+    "groups of an election without an outcome": (["n.pb"], {"n.pb": HEAD.replace(b";selected", b"") % 10 + b"VOTES\nvote\n"}),
+}
 
 
 def of_id(named, name):
@@ -265,7 +319,7 @@ def fixed_cases():
     """What chance doesn't meet: tables that are cut, numbers of projects of which Polish speaks in its own way, the
     examples, and files that aren't there or say nothing."""
     for count in (1, 2, 5):
-        for made in (of_offers, of_strangers, of_members):
+        for made in (of_offers, of_strangers, of_members, of_unwanted):
             yield renamed(random.Random(count), made(count), f"{made.__name__} {count}")
     for *options, certificate in EXAMPLE_WORDS:
         words = [*options, "district.pb", certificate]
@@ -297,5 +351,10 @@ def fixed_cases():
         # No page is about two certificates.
         if case.words[0] != "both":
             yield renamed(random.Random(f"refutation {number}"), case, case.name)
+    for number, case in enumerate(groups()):
+        if case.words[0] == "groups":
+            yield renamed(random.Random(f"groups {number}"), case, f"{number} {case.name}")
+    for name, (words, files) in WITHOUT_FILES.items():
+        yield Case(["page", "--groups", *words], {"town.pb": town, **files}, name=name)
     for name, case in LARGE.items():
         yield renamed(random.Random(name), case(), name)

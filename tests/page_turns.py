@@ -4,12 +4,14 @@ import unittest.mock
 from fractions import Fraction
 
 from common import HERE
-from reference.page import amounts, bars, findings, labels, prices, projects, states, tables, whole, wording
+from reference.page import amounts, bars, findings, labels, prices, projects, short_groups, states, tables, whole, wording
 from reference.page import case as case_of_page
 from reference.page.case import Case, InputFile
 from reference.page.group import GroupFigures
 from reference.page.nodes import element
 from reference.page.prices import PriceFigures
+from reference.page.short_groups import ShortFigures
+from reference.page.weights import WeightFigures
 from reference.page.wording import Wording
 
 
@@ -65,6 +67,7 @@ STATES = [
     Turn("a caution where the budgets come to the limit",
          (PriceFigures, "says_little", instead(lambda self: None if self.failed else "caution.less"))),
     Turn("the plain form isn't told apart", (PriceFigures, "fails_as_stable_alone", instead(lambda self: False))),
+    Turn("stable prices aren't told apart from all", (WeightFigures, "told", instead(lambda self, meaning: meaning))),
     Turn("the outcome is never to blame", (PriceFigures, "fails_by_outcome", instead(lambda self: False))),
     Turn("the outcome is always to blame", (PriceFigures, "fails_by_outcome", instead(lambda self: True))),
 ]
@@ -91,6 +94,44 @@ FIGURES = [
          (Case, "none_funded", instead(lambda self: self.say("funded.none")))),
     Turn("nothing on other places", (findings, "places", instead(lambda case, figures, name: []))),
     Turn("costs without decimals", (Case, "cost", answers(Fraction.__floor__))),
+]
+GROUPS = [
+    Turn("groups that fall short as good news", (ShortFigures, "news", answers(lambda news: "" if news else "bad"))),
+    Turn("the group of the last project that is told", (ShortFigures, "shown", instead(lambda self: (self.short or self.groups)[-1]))),
+    Turn("the first project for the closest", (ShortFigures, "shown", instead(lambda self: (self.short or self.groups)[0]))),
+    Turn("the largest group is told",
+         (ShortFigures, "shown", instead(lambda self: short_groups.short_first(self.short or self.groups)[0]))),
+    Turn("no group that comes closest", (ShortFigures, "of_groups", instead(lambda self, case: []))),
+    Turn("the part of all voters",
+         (ShortFigures, "part", instead(lambda self, group: Fraction(self.election.limit, 10**6)))),
+    Turn("the part of all supporters", (ShortFigures, "part", lambda old: lambda self, group: old(
+        self, unittest.mock.Mock(voters=group.supporters)))),
+    Turn("part and need exchanged",
+         (ShortFigures, "part", lambda old: ShortFigures.need), (ShortFigures, "need", lambda old: ShortFigures.part)),
+    Turn("the cost for the need",
+         (ShortFigures, "need", instead(lambda self, group: Fraction(self.election.costs[group.project], 10**6)))),
+    Turn("numbers of projects as amounts",
+         (ShortFigures, "most", instead(lambda self, case, group: case.money(Fraction(group.most, 10**6))))),
+    Turn("amounts as numbers of projects that were got",
+         (ShortFigures, "most", instead(lambda self, case, group: [amounts.grouped(group.most)]))),
+    Turn("nothing on what costs more than the limit", (ShortFigures, "caution", instead(lambda self, case: []))),
+    Turn("a caution on what costs as much as the limit", (ShortFigures, "caution", instead(
+        lambda self, case: element("p", case.filled("caution.beyond_limit", amount=case.money(0)), class_="caution")
+        if case.cost_of(self.funded) == case.limit else []))),
+    Turn("groups as in the file", (short_groups, "short_first", instead(lambda groups: groups))),
+    Turn("the smallest group first", (short_groups, "short_first", instead(lambda groups: (
+        sorted((each for each in groups if each.is_short), key=lambda each: each.voters)
+        + [each for each in groups if not each.is_short])))),
+    Turn("those that don't fall short first", (short_groups, "short_first", instead(lambda groups: (
+        [each for each in groups if not each.is_short]
+        + sorted((each for each in groups if each.is_short), key=lambda each: -each.voters))))),
+    Turn("the others by the size of their groups too",
+         (short_groups, "short_first", instead(lambda groups: sorted(groups, key=lambda each: (not each.is_short, -each.voters))))),
+    Turn("nothing on what nobody wants", (ShortFigures, "without_group", instead(lambda self, case: []))),
+    Turn("a part in words where a group falls short", (short_groups, "bar_against", asked(
+        lambda label, part, need, _: (label, part, need, False)))),
+    Turn("a part in words that is rounded up", (short_groups, "part_in_words", asked(
+        lambda case, part, need: (case, part + need / 20_000, need)))),
 ]
 SHOWN = [
     Turn("no minus", (amounts, "MINUS", instead(""))),
@@ -145,6 +186,10 @@ ROWS = [
 ]
 CHECKED = [
     Turn("the command without options", (PriceFigures, "options", instead(lambda self: []))),
+    Turn("the command on groups without options", (ShortFigures, "options", instead(lambda self: []))),
+    Turn("the command on groups without its measure", (ShortFigures, "options", instead(lambda self: ["--groups"]))),
+    Turn("a certificate among the words on groups", (ShortFigures, "words", instead(("certificate", "short", "part", "ejr_plus")))),
+    Turn("the command on weights without options", (WeightFigures, "options", instead(lambda self: []))),
     Turn("options in the command on a group", (GroupFigures, "options", instead(lambda self: ["--stable"]))),
     Turn("names of files without quotes", (whole, "shell_word", instead(lambda name: name))),
     Turn("another sum", (InputFile, "sum", instead(property(lambda self: "0" * 64)))),
@@ -155,6 +200,6 @@ CHECKED = [
     Turn("commands for all names", (whole, "is_word", instead(lambda name: True))),
     Turn("no commands", (whole, "is_word", instead(lambda name: False))),
     Turn("a line with all that it has", (whole, "shown_line", instead(lambda line: line.decode().rstrip("\n")))),
-    Turn("words in another order", (GroupFigures, "words", instead(("demand", "share")))),
+    Turn("words in another order", (GroupFigures, "words", instead(("certificate", "demand", "share")))),
 ]
-TURNS = EXCHANGED + STATES + FIGURES + SHOWN + NAMES + ROWS + CHECKED
+TURNS = EXCHANGED + STATES + FIGURES + GROUPS + SHOWN + NAMES + ROWS + CHECKED

@@ -1,11 +1,12 @@
-"""What the program answers on the examples, and on the small files of tables/answers.txt."""
+"""What the program answers on the examples, and on the small files of tables/answers.txt and tables/groups.txt."""
 import re
 
 import pytest
 
 import tables
 
-TABLE = tables.Table("answers.txt")
+TABLES = [tables.Table("answers.txt"), tables.Table("groups.txt")]
+WORKED_OUT = [pytest.param(table, *case.values, id=case.id) for table in TABLES for case in tables.cases(table)]
 EXAMPLES = (tables.EXAMPLES / "answers.txt").read_text("utf-8")
 ON_EXAMPLES = re.findall(r"^pbaudit (.*)\n((?:(?!pbaudit |status ).*\n)*)status (\d)\n((?:(?!pbaudit ).*\n?)*)", EXAMPLES, re.M)
 
@@ -30,9 +31,9 @@ def test_each_command_has_examples(commands):
     assert {end for end in ends if end[0] != "page"} - shown == {("folder", 0)}
 
 
-@pytest.mark.parametrize("row, words", tables.cases(TABLE))
-def test_answer(run, room, row, words):
-    row.write(room, TABLE.files)
+@pytest.mark.parametrize("table, row, words", WORKED_OUT)
+def test_answer(run, room, table, row, words):
+    row.write(room, table.files)
     ran = run(*words, cwd=room)
     assert ran.stdout.decode() == row.text
     assert ran.returncode == row.status

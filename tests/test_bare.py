@@ -203,7 +203,7 @@ def test_package(machine, what):
     done = machine.run(f'PYTHONPATH=$1 python3 -m pbaudit {AUDIT}', site)
     assert (done.returncode, done.stdout, done.stderr) == (0, ANSWER, "")
     if what.startswith("pip"):
-        done = machine.run(f'"$1/bin/pbaudit" {AUDIT} && cmp "$1/bin/pbaudit" release/pbaudit', site)
+        done = machine.run(f'"$1/bin/pbaudit" {AUDIT} && cmp "$1/pbaudit/bin/pbaudit" release/pbaudit', site)
         assert (done.returncode, done.stdout, done.stderr) == (0, ANSWER, "")
 
 

@@ -16,11 +16,14 @@ VERDICTS = [
     "read .. funded", "read .. no outcome", "note: num_projects", "note: num_votes", "note: selected",
     "supported priceable", "supported stable", "failed Feasible", "failed Exhaustive", "failed C1", "failed C2",
     "failed C3", "failed C4", "failed C5", "failed S5", "violation", "failed V1", "failed V2", "failed V3", "failed V4",
-    "pb-prices,1", "failed Cover", "total", "pb-margins,1", "unpriceable", "unpriceable cover", "failed U1",
-    "failed U2", "failed U3",
+    "pb-prices,1", "failed Cover", "total", "pb-margins,1", "unpriceable", "unpriceable cover", "unpriceable stable",
+    "unpriceable stable cover", "failed U1", "failed U2", "failed U3", "satisfied ejr+ by cost", "satisfied ejr+ by count",
+    "failed EJR+ by cost", "failed EJR+ by count", "note: the funded projects", "note: the voter budgets",
 ]  # fmt: skip
 CONDITIONS = ["Feasible", "Exhaustive", "Cover", "C1", "C2", "C3", "C4", "C5", "S5", "V1", "V2", "V3", "V4",
               "U1", "U2", "U3"]
+# How lines begin that go on differently.
+LINES = r"refused \w+ \d+ \w+|failed EJR\+ by \w+|failed \w+|note: the \w+ \w+|note: \w+|total"
 EXPLAINED = [f"{name} {answer}" for name in CONDITIONS for answer in ("holds", "fails")]
 EXPLAINED += [f"{name} not asked" for name in ("Exhaustive", "Cover", "C5", "S5")]
 
@@ -35,9 +38,9 @@ def wanted_kinds():
     return VERDICTS + EXPLAINED + refusals
 
 
-def kinds_of(text):
-    """The kinds of the lines of an answer."""
-    lines = text.decode("utf-8").split("\n")
+def kinds_of(said):
+    """The kinds of the lines of an answer, and of the notes beside it."""
+    lines = (said.text + said.errors).decode("utf-8").split("\n")
     if lines[0] in ("pb-prices,1", "pb-margins,1"):
         return [lines[0]]
     kinds = []
@@ -45,7 +48,7 @@ def kinds_of(text):
         line = line.split(".pb: ")[-1].split(".csv: ")[-1]
         line = re.sub(r"^read .* (funded|no outcome)$", r"read .. \1", line)
         line = re.sub(r"^(\w+) +(holds|fails|not asked)  .*$", r"\1 \2", line)
-        kinds.append(re.sub(r"^(refused \w+ \d+ \w+|failed \w+|note: \w+|total) .*$", r"\1", line))
+        kinds.append(re.sub(rf"^({LINES}) .*$", r"\1", line))
     return kinds
 
 
@@ -80,5 +83,5 @@ def test_each_kind_of_answer_comes(seed, option):
             with tempfile.TemporaryDirectory() as room:
                 if not case.known:
                     cases.write_files(room, case.files)
-                wanted -= {*kinds_of(saying.reference_says(case, room).text)}
+                wanted -= {*kinds_of(saying.reference_says(case, room))}
     assert wanted == set()

@@ -1,9 +1,10 @@
 """The pages lead somewhere: each link of a page to a file or a heading, and each path in backticks; they keep to their lengths, which
-docs/TRUST.md tells; docs/DESIGN.md has each crate, and the README the kit; what docs/ANSWERS.md, docs/COUNCILS.md and docs/STORY.md quote
-and docs/CONDITIONS.md names is said by the page about a certificate, and the buttons that pages name are on the page in a browser; the
-sums of docs/CAMPAIGNS.md are right, and so is its refutation; each word of docs/GLOSSARY.md has its definition; the build that
-docs/LIBRARY.md shows fails where it has to; each file that docs/files.py prints begins with a comment on what it is for; each command
-that the pages show writes what stands under it; and each changed line that docs/FORMATS.md shows has its refusal."""
+docs/TRUST.md tells; docs/DESIGN.md has each crate, and walks through each command by calls that there are; the README has the kit;
+what docs/ANSWERS.md, docs/COUNCILS.md and docs/STORY.md quote and docs/CONDITIONS.md names is said by the page about a certificate,
+and the buttons that pages name are on the page in a browser; the sums of docs/CAMPAIGNS.md are right, and so is its refutation; each
+word of docs/GLOSSARY.md has its definition; the build that docs/LIBRARY.md shows fails where it has to; each file that docs/files.py
+prints begins with a comment on what it is for; each command that the pages show writes what stands under it; and each changed line
+that docs/FORMATS.md shows has its refusal."""
 import csv
 import math
 import re
@@ -137,12 +138,24 @@ def test_security_is_linked(name):
     assert "](SECURITY.md)" in (TOP / name).read_text(encoding="utf-8")
 
 
-@pytest.mark.parametrize("name, told, headings", [("FAQ", "ten questions", r"## .*\?"), ("TOUR", "four steps", r"## \d\. .*"),
+@pytest.mark.parametrize("name, told, headings", [("FAQ", "eleven questions", r"## .*\?"), ("TOUR", "five steps", r"## \d\. .*"),
                                                   ("STORY", "five steps", r"## \d\. .*")])  # fmt: skip
 def test_page_has_what_it_begins_with(name, told, headings):
     text = (TOP / f"docs/{name}.md").read_text(encoding="utf-8")
     assert told in " ".join(text.split()[:20])
-    assert len(re.findall(f"^{headings}$", text, re.MULTILINE)) == {"four": 4, "five": 5, "ten": 10}[told.split()[0]]
+    assert len(re.findall(f"^{headings}$", text, re.MULTILINE)) == {"five": 5, "eleven": 11}[told.split()[0]]
+
+
+def test_all_answers_are_listed():
+    """Each command of the program, and each line of a yes that docs/FORMATS.md has, stands in the section of docs/ANSWERS.md on all."""
+    listed = (TOP / "docs/ANSWERS.md").read_text(encoding="utf-8").split("\n## All answers\n")[1].split("\n## ")[0]
+    words = {word for code in re.findall("`([^`]*)`", listed) for word in code.split()}
+    commands = {*re.findall(r'name: "(\w+)",\n +about: ', (TOP / "crates/pb_command/src/command.rt").read_text(encoding="utf-8"))}
+    assert len(commands) == 11 and commands - words == set()
+    printed = (TOP / "docs/FORMATS.md").read_text(encoding="utf-8").split("\n## Printed lines\n")[1].split("\n### ")[0]
+    lines = {line for row in re.findall(r"^\| (`.*?) \|", printed, re.MULTILINE) for line in re.findall("`([^`]*)`", row)}
+    yes = {line for line in lines if re.match("satisfied|supported|violation|unpriceable", line)}
+    assert len(yes) == 9 and yes == {*re.findall("`((?:satisfied|supported|violation|unpriceable)[^`]*)`", listed)}
 
 
 def test_kit_is_named():
@@ -165,6 +178,63 @@ def test_crates_of_the_design():
         assert [(crate, each) for crate in names for each in rests_on[crate] if each in names and names.index(each) > names.index(crate)] == []
 
 
+def test_each_library_is_named():
+    """No crate lists a library in crates.txt that none of its files names."""
+    idle = []
+    for crate, below in re.findall(r"^(\w+)(?: staticlib)?:(.*)$", (TOP / "crates.txt").read_text(encoding="utf-8"), re.MULTILINE):
+        files = [path for part in ("src", "specs", "proofs") for path in (TOP / "crates" / crate / part).rglob("*") if path.is_file()]
+        words = {word for path in files for word in re.findall(r"\w+", path.read_text(encoding="utf-8"))}
+        idle += [(crate, each) for each in below.split() if each not in words]
+    assert idle == []
+
+
+def calls_of_the_walk():
+    """Who calls whom, as docs/DESIGN.md walks through the commands: of names with commas between them the last calls on."""
+    section = (TOP / "docs/DESIGN.md").read_text(encoding="utf-8").split("\n## A walk through each command\n")[1].split("\n## ")[0]
+    for line in section.splitlines():
+        if not line.startswith("    "):
+            continue
+        walk = next(part for part in re.split(r" {2,}", line.strip()) if " > " in part)
+        for chain in walk.split("; "):
+            steps = [step.split(", ") for step in chain.split(" > ")]
+            yield from ((callers[-1], called) for callers, names in zip(steps, steps[1:]) for called in names)
+
+
+def functions_of_the_crates():
+    """By name, the crate and the lines of each function: up to the next line that has no more than its closing brace."""
+    functions = {}
+    for path in (TOP / "crates").glob("*/src/**/*.rt"):
+        lines = path.read_text(encoding="utf-8").splitlines()
+        for at, line in enumerate(lines):
+            begun = re.match(r"( *)(?:pub(?:\(\w+\))? )?fn (\w+)", line)
+            if begun and (begun[1] + "}") in lines[at:]:
+                body = "\n".join(lines[at : lines.index(begun[1] + "}", at)])
+                functions.setdefault(begun[2], []).append((path.relative_to(TOP / "crates").parts[0], body))
+    return functions
+
+
+def test_walk_through_each_command():
+    """A function of each name calls the next one, in a crate that is no higher, and no call leads back up."""
+    order = re.findall(r"^(\w+)(?: staticlib)?:", (TOP / "crates.txt").read_text(encoding="utf-8"), re.MULTILINE)
+    functions = functions_of_the_crates()
+    calls = [*calls_of_the_walk()]
+    assert len(calls) > 60
+    for caller, called in calls:
+        crates = {crate for crate, body in functions[caller] if re.search(rf"\b{called}(?:::<[^>]*>)?\(", body)}
+        lowest = min(order.index(crate) for crate, _ in functions[called])
+        assert any(lowest <= order.index(crate) for crate in crates), (caller, called)
+    below = {}
+    for caller, called in calls:
+        below.setdefault(caller, set()).add(called)
+
+    def ends(name, above):
+        assert name not in above, [*above, name]
+        for called in below.get(name, ()):
+            ends(called, [*above, name])
+
+    ends("main", [])
+
+
 def test_limits_that_a_service_is_told():
     """The most bytes of a file, as the sources have it, in both ways of writing."""
     told = re.search(r"a file may have 2\^(\d+) \(([\d,]+)\)", (TOP / "SECURITY.md").read_text(encoding="utf-8"))
@@ -180,7 +250,7 @@ def test_length(name):
 def test_all_pages_together():
     """Those for readers; CONTRIBUTING is for who changes the sources."""
     pages = [TOP / "README.md", *(TOP / "docs").glob("*.md")]
-    assert sum(len(page.read_text(encoding="utf-8").splitlines()) for page in pages) <= 3500
+    assert sum(len(page.read_text(encoding="utf-8").splitlines()) for page in pages) <= 4060
 
 
 def test_sums_of_the_district():
@@ -251,6 +321,8 @@ def test_routes_have_their_lines():
     definitions = ("Amounts", "Conditions", "Groups", "EveryGroup", "Refutations")
     specs = [*(f"crates/pb_cohesion/specs/{name}.antt" for name in definitions),
              *(f"crates/pb_{crate}/specs/**/{name}.antt" for crate in ("election", "certificate") for name in ("Text", "Faults")),
+             "crates/pb_certificate/specs/**/Kind.antt", "crates/pb_certificate/specs/Prices/RowFaults.antt",
+             "crates/pb_records/specs/Headed.antt",
              "crates/pb_audit/specs/Answers.antt"]  # fmt: skip
     counted = [section_of("docs/STATEMENT.md", "## The promise") + section_of("docs/CONDITIONS.md", "## The conditions"),
                lines_of("docs/STATEMENT.md"), lines_of(*specs),
@@ -286,14 +358,16 @@ def test_each_file_is_listed(purposes):
 
 
 def shown_commands():
-    """Each command that a page shows behind '$ ', with the lines that stand under it, up to the end of the block."""
+    """Each command that a page shows behind '$ ', with the lines that stand under it, up to the end of the block, and the commands
+    above it that write files."""
     for name in PAGES:
         if not name.startswith(("README.md", "docs/", "tests/reference/")):
             continue
-        command, lines = None, []
+        writing, command, lines = [], None, []
         for line in [*(TOP / name).read_text(encoding="utf-8").splitlines(), "end"]:
             if command and (line.startswith("    $ ") or line and not line.startswith("    ")):
-                yield pytest.param(command, "\n".join(lines).strip("\n"), id=f"{name}: {command}")
+                yield pytest.param([*writing], command, "\n".join(lines).strip("\n"), id=f"{name}: {command}")
+                writing += [command] if " > /tmp/" in command else []
                 command = None
             if line.startswith("    $ "):
                 command, lines = line[6:], []
@@ -301,13 +375,17 @@ def shown_commands():
                 lines.append(line[4:])
 
 
-@pytest.mark.parametrize("command, wanted", shown_commands())
-def test_shown_command(program, command, wanted):
-    """As ./pbaudit the program is called that is tried."""
-    called = re.sub(r"(?<![\w/.])\./pbaudit(?![\w-])", str(program), command)
-    told = subprocess.run(["bash", "-c", called], cwd=TOP, stdin=subprocess.DEVNULL, stdout=subprocess.PIPE, text=True,
-                          stderr=subprocess.STDOUT, timeout=120, check=False)  # fmt: skip
-    assert told.stdout.rstrip("\n") == wanted
+@pytest.mark.parametrize("writing, command, wanted", shown_commands())
+def test_shown_command(program, tmp_path, writing, command, wanted):
+    """As ./pbaudit the program is called that is tried. Each command has a folder of its own in place of /tmp."""
+    def said(command):
+        called = re.sub(r"(?<![\w/.])\./pbaudit(?![\w-])", str(program), command.replace("/tmp/", f"{tmp_path}/"))
+        told = subprocess.run(["bash", "-c", called], cwd=TOP, stdin=subprocess.DEVNULL, stdout=subprocess.PIPE, text=True,
+                              stderr=subprocess.STDOUT, timeout=120, check=False)  # fmt: skip
+        return told.stdout.rstrip("\n").replace(f"{tmp_path}/", "/tmp/")
+
+    assert [said(each) for each in writing] == [""] * len(writing)
+    assert said(command) == wanted
 
 
 REFUTATION = ["pb-refutation,1", "cover,0", "role,project,weight", "least,a,2", "most,b,1", "left,c,1"]

@@ -19,23 +19,29 @@ ON_EACH_INPUT = {
     "read u.csv": "election", "tidy u.csv u.csv": "election", "margins u.csv u.csv --outcome u.csv": "election",
     "prices u.csv u.csv --outcome u.csv": "election", "violation u.csv u.csv --outcome u.csv": "election",
     "refutation u.csv u.csv --outcome u.csv": "election", "explain u.csv u.csv --outcome u.csv": "election",
-    "page u.csv u.csv --outcome u.csv": "election", "both u.csv u.csv u.csv --outcome u.csv": "election",
+    "page u.csv u.csv --outcome u.csv": "election", "page u.csv --groups --outcome u.csv": "election",
+    "page e.pb --groups --outcome u.csv": "outcome", "both u.csv u.csv u.csv --outcome u.csv": "election",
+    "groups u.csv --outcome u.csv": "election", "groups e.pb --outcome u.csv": "outcome",
     "prices e.pb u.csv --outcome u.csv": "outcome", "violation e.pb u.csv --outcome u.csv": "outcome",
     "refutation e.pb u.csv --outcome u.csv": "outcome", "explain e.pb u.csv --outcome u.csv": "outcome",
     "page e.pb u.csv --outcome u.csv": "outcome", "margins e.pb u.csv --outcome u.csv": "outcome",
     "both e.pb u.csv u.csv --outcome u.csv": "outcome", "prices e.pb u.csv": "certificate",
     "violation e.pb u.csv": "certificate", "refutation e.pb u.csv": "certificate", "explain e.pb u.csv": "certificate",
+    "refutation e.pb u.csv --stable": "certificate",
     "page e.pb u.csv": "certificate", "tidy e.pb u.csv": "certificate", "margins e.pb u.csv": "certificate",
     "both e.pb u.csv u.csv": "prices", "both e.pb p.csv u.csv": "violation",
 }  # fmt: skip
-# The commands that read an outcome and one certificate.
+# The commands that read an outcome and one certificate, and how many certificates others read that open several files.
 COMMANDS = ("prices", "violation", "refutation", "explain", "margins", "page")
+CERTIFICATES = dict.fromkeys(COMMANDS, 1) | {"tidy": 1, "both": 2, "groups": 0}
 # Commands, and the first five bytes that each prints.
 FIVE_BYTES = {
     "": b"read ", "read sample.pb": b"read ", "read p.csv": b"refus", "prices e.pb p.csv": b"suppo", "tidy e.pb p.csv": b"pb-pr",
     "violation unfair.pb unfair.violation.csv": b"viola", "refutation school.pb school.refutation.csv": b"unpri",
+    "refutation school.pb school.refutation.csv --stable": b"unpri", "groups e.pb": b"satis", "groups unfair.pb": b"faile",
     "both e.pb p.csv fair.violation.csv": b"suppo", "explain e.pb p.csv": b"suppo", "margins e.pb p.csv": b"pb-ma",
-    "page e.pb p.csv": b"<!DOC", "folder folder": b"f.pb:", "--help": b"Audit", "help read": b"Read ",
+    "page e.pb p.csv": b"<!DOC", "page e.pb --groups": b"<!DOC", "page unfair.pb --groups": b"<!DOC", "folder folder": b"f.pb:",
+    "--help": b"Audit", "help read": b"Read ",
 }  # fmt: skip
 
 
@@ -67,6 +73,17 @@ def test_help_is_printed(run, words):
 
 @pytest.mark.parametrize("words", [
     ["prices", "sample.pb"], ["sample.pb"], ["read", "-e.pb"], ["page", "sample.pb", "sample.prices.csv", "--language", "xx"],
+    ["groups"], ["groups", "sample.pb", "sample.prices.csv"], ["groups", "sample.pb", "--stable"], ["groups", "sample.pb", "--cover"],
+    *(["groups", "sample.pb", "--satisfaction", *word] for word in ([], [""], ["Cost"], ["costs"], ["count", "--satisfaction", "count"])),
+    ["refutation", "sample.pb", "sample.wrong.refutation.csv", "--cover"], ["violation", "sample.pb", "unfair.violation.csv", "--stable"],
+    ["prices", "sample.pb", "sample.prices.csv", "--satisfaction", "cost"],
+    *([*("page", "sample.pb"), *words] for words in (
+        [], ["--groups", ""], ["--groups", "sample.prices.csv"], ["--groups", "--groups"], ["--groups", "--stable"],
+        ["--groups", "--no-exhaustive"], ["--groups", "--cover"], ["--groups", "--json"], ["--groups", "--language", "xx"],
+        ["--groups", "--satisfaction", "votes"], ["--groups", "--satisfaction"], ["--satisfaction", "cost"],
+        ["sample.prices.csv", "--satisfaction", "cost"],
+    )),
+    ["page", "--groups"],
 ])  # fmt: skip
 def test_words_that_are_not_understood(run, words):
     ends(run(*words), 3, "", None)
@@ -118,11 +135,11 @@ def test_file_that_never_ends(run, room, line):
     ends(run(*line.split(" "), cwd=room), 2, f"refused {ON_EACH_INPUT[line]} 19 TooLong record 0", f"u.csv: {LONG}")
 
 
-@pytest.mark.parametrize("command", [*COMMANDS, "tidy", "both"])
+@pytest.mark.parametrize("command", CERTIFICATES)
 @pytest.mark.parametrize("election", ["missing.pb", ".", "sample.prices.csv"])
 def test_nothing_is_opened_behind_a_refused_election(run, room, command, election):
     line = NO_META if (room / election).is_file() else "refused election 18 Read record 0"
-    words = [command, election, *["pipe"] * (2 if command == "both" else 1)]
+    words = [command, election, *["pipe"] * CERTIFICATES[command]]
     for more in [[]] if command == "tidy" else [[], ["--outcome", "pipe"]]:
         ends(run(*words, *more, cwd=room), 2, line, None)
 
@@ -130,7 +147,7 @@ def test_nothing_is_opened_behind_a_refused_election(run, room, command, electio
 @pytest.mark.parametrize("command", [*COMMANDS, "both"])
 @pytest.mark.parametrize("outcome, line", [("missing.csv", "18 Read record 0"), ("sample.pb", "21 BadHead record 1")])
 def test_nothing_is_opened_behind_a_refused_outcome(run, room, command, outcome, line):
-    words = [command, "sample.pb", *["pipe"] * (2 if command == "both" else 1), "--outcome", outcome]
+    words = [command, "sample.pb", *["pipe"] * CERTIFICATES[command], "--outcome", outcome]
     ends(run(*words, cwd=room), 2, f"refused outcome {line}", None)
 
 
@@ -185,8 +202,8 @@ def test_each_command_is_tried(commands):
     """On each of its inputs, behind one that is refused, and where little is written: a new command can't be left out."""
     inputs = {(command, name) for command, names in commands.inputs.items() for name in names if name != "folder"}
     assert {(line.split(" ")[0], name) for line, name in ON_EACH_INPUT.items()} == inputs
-    assert {*COMMANDS, "both"} == {command for command, names in commands.inputs.items() if "outcome" in names}
-    assert {*COMMANDS, "both", "tidy"} == {command for command, names in commands.inputs.items() if len(names) > 1}
+    assert {*CERTIFICATES} - {"tidy"} == {command for command, names in commands.inputs.items() if "outcome" in names}
+    assert {*CERTIFICATES} == {command for command, names in commands.inputs.items() if len(names) > 1}
     assert {line.split(" ")[0] for line in FIVE_BYTES} - {"", "--help"} == {*commands.names}
 
 
@@ -260,10 +277,14 @@ LITTLE = "town.pb: note: the voter budgets together are less than the limit, so 
     ("prices town.pb bench.csv", 1, "failed Exhaustive project school", ""),
     ("prices town.pb bench.csv --no-exhaustive --cover", 1, "failed Cover", ""),
     ("violation town.pb school.csv", 0, "violation", ""),
+    ("groups town.pb", 1, "failed EJR+ by cost voters 100 project school", ""),
+    ("groups poor.pb", 0, "satisfied ejr+ by cost", ""),
     ("explain town.pb school.csv", 0, None, ""),
     ("margins town.pb bench.csv", 0, None, ""),
     ("tidy town.pb bench.csv", 0, None, ""),
     ("page town.pb bench.csv --no-exhaustive", 0, None, ""),
+    ("page town.pb --groups", 1, None, ""),
+    ("page poor.pb --groups", 0, None, ""),
     ("explain town.pb bench.csv", 1, None, ""),
     ("prices poor.pb bench.csv --no-exhaustive", 0, "supported priceable", ""),
     ("explain poor.pb bench.csv", 0, None, ""),

@@ -48,12 +48,15 @@ TESTS = {
         "tests::certificate::canonical::", "tests::certificate::kinds::",
         "tests::certificate::refutations::refutation_is_read_", "tests::election::",
     ),
-    "pb_cohesion_tests": ("tests::cohesion::",),
+    "pb_cohesion_tests": (
+        "tests::cohesion::", "tests::short::closest_", "tests::short::outcome_", "tests::stable::findings_",
+    ),
     "pb_price_tests": ("tests::price::figures::", "tests::price::verdicts::both_calls_"),
     "pb_command_tests": ("tests::command::",),
+    "pb_json_tests": ("tests::",),
     "pb_reply_tests": ("tests::explain::", "tests::reply::"),
     "pb_audit_tests": ("tests::folders::", "tests::in_turn::each_answer_", "tests::in_turn::each_command_"),
-    "pb_page_tests": ("tests::answers::", "tests::names::"),
+    "pb_page_tests": ("tests::answers::", "tests::groups::", "tests::names::"),
 }  # fmt: skip
 # How such a test ends out of memory: by the call, or by the writer into memory that the test gives it.
 WANTS = (
@@ -72,7 +75,7 @@ def refused(name):
 
 
 def fill(room):
-    """Fills a folder with the examples, with an unfair outcome, with a folder of two elections, with one where nothing is refused
+    """Fills a folder with the examples, with an unfair outcome and one that costs too much, with a folder of two elections, with one where nothing is refused
     and something fails, with one of names that are told, and with an empty one."""
     for path in [*EXAMPLES.glob("*.pb"), *EXAMPLES.glob("*.csv")]:
         shutil.copy(path, room)
@@ -89,6 +92,7 @@ def fill(room):
     noted = noted.replace("voter_id;vote", "weight;vote")
     for path, text in (
         (NOTED, noted), ("unfair.pb", UNFAIR), ("unfair.violation.csv", UNFAIR_VIOLATION), ("two/two.pb", ""),
+        ("over.pb", noted.replace("budget;10", "budget;9")),
         ("two/one.violation.csv", "pb-violation,1\nproject,b\nvoter,3\nvoter,1\n"),
     ):  # fmt: skip
         with open(os.path.join(room, path), "w") as file:
@@ -139,7 +143,7 @@ def inputs_of(words):
     inputs = [("election", words[1])]
     if "--outcome" in words:
         inputs.append(("outcome", words[words.index("--outcome") + 1]))
-    names = ["prices", "violation"] if words[0] == "both" else ["certificate"]
+    names = {"both": ["prices", "violation"], "groups": []}.get(words[0], ["certificate"])
     return inputs + list(zip(names, words[2:]))
 
 
@@ -191,10 +195,19 @@ def is_right_in_a_folder(kind, how, words, told, said, ordinary):
 
 
 def tells_no_more(said, ordinary):
-    """Whether a hint is there at most as far as the ordinary one: no more lines, each of which names the same file."""
-    file, lines = ordinary.errors.split(b":")[0] + b":", said.errors.splitlines(keepends=True)
+    """Whether a hint is there at most as far as the ordinary one: no more lines, each of which names the same file. The notes
+    are the same."""
+    (notes, hint), (other_notes, other_hint) = notes_and_hint(said), notes_and_hint(ordinary)
+    file, lines = other_hint.split(b":")[0] + b":", hint.splitlines(keepends=True)
     is_whole = all(line.startswith(file) and line.endswith(b"\n") for line in lines)
-    return is_whole and len(lines) <= len(ordinary.errors.splitlines())
+    return notes == other_notes and is_whole and len(lines) <= len(other_hint.splitlines())
+
+
+def notes_and_hint(said):
+    """What is told beside an answer: notes on the election, and why a file is refused."""
+    lines = said.errors.splitlines(keepends=True)
+    notes = b"".join(line for line in lines if b": note: " in line)
+    return notes, b"".join(line for line in lines if b": note: " not in line)
 
 
 def is_right(kind, how, words, told, said, ordinary):
@@ -202,14 +215,15 @@ def is_right(kind, how, words, told, said, ordinary):
     same_answer = (said.text, said.status) == (ordinary.text, ordinary.status)
     if kind == "memory":
         # Without memory for them, a hint or notes aren't there.
-        return said in (FAULT_MEMORY, ordinary) or (same_answer and not said.errors)
+        return said in (FAULT_MEMORY, ordinary) or (same_answer and said.errors in (b"", *notes_and_hint(ordinary)))
     if kind == "look":
         # What can't be looked at counts as a file, and isn't opened again for a hint.
         return said == ordinary or (ordinary.status == 2 and same_answer and tells_no_more(said, ordinary))
     if how == "one":
         return said == ordinary
     if kind == "write" and told.file == 2:
-        return same_answer and ordinary.errors.startswith(said.errors)
+        # They are written one after the other, whatever became of the first.
+        return same_answer and any(each.startswith(said.errors) for each in (ordinary.errors, *notes_and_hint(ordinary)))
     if kind == "write":
         return said.errors == b"fault write\n" and said.status == 4 and ordinary.text.startswith(said.text)
     if words[:1] == ["folder"]:

@@ -331,12 +331,12 @@ def way(request):
 
 @pytest.mark.parametrize("words", [
     "elections", "elections --stable", "elections --no-exhaustive --stable", "examples", "elections --unknown", "missing",
-    "examples/sample.pb", "none", "latin", "misses",
+    "examples/sample.pb", "none", "latin", "misses", "elections --json", "none --json --stable", "latin --json",
 ])  # fmt: skip
 def test_many(program, folders, way, words):
     environment, machines = way
     environment["PBAUDIT"] = str(program)
-    told = {"cwd": folders, "stdin": subprocess.DEVNULL, "capture_output": True, "timeout": 60, "env": environment}
+    told = {"cwd": folders, "stdin": subprocess.DEVNULL, "capture_output": True, "timeout": 600, "env": environment}
     one = subprocess.run([program, "folder", *words.split(" ")], check=False, **told)
     many = subprocess.run([MANY, *words.split(" ")], check=False, **told)
     assert (many.returncode, many.stdout, many.stderr) == (one.returncode, one.stdout, one.stderr)

@@ -106,6 +106,7 @@ trap end_all EXIT
 says() { printf '%s\\n' "$@"; }
 wrong() { false; echo 'went on'; }
 """
+README = "cd \"$1\"; echo 'All by `rattle-kit-0`, `logic 0` (the line of `rt version`). More' > README.md; "
 # What the gate does with its parts, whether it ends well, and lines that stand in what it says, or with '!' ahead don't.
 GATES = {
     "parts in the foreground": ("part one says 'hello' '3 passed'; tell", True, ["hello", "3 passed"]),
@@ -133,6 +134,9 @@ GATES = {
         True,
         ["b goes on"],
     ),
+    "the kit that the README names": (f"{README}rt() {{ echo rattle-kit-0 logic 0; }}; tell_kit | wc -c", True, ["0"]),
+    "another kit": (f"{README}rt() {{ echo rattle-kit-1 logic 0; }}; tell_kit", True,
+                    ["The README names rattle-kit-0 logic 0, and this run was by rattle-kit-1 logic 0."]),
     "what failed has ended": ("begin a wrong; until has_ended a; do sleep 0.01; done; echo it has", True, ["it has"]),
 }
 
@@ -151,6 +155,7 @@ def test_parts(room, name):
 # begun. Where all edits were refused before, they end at once.
 STAND_IN = """#!/usr/bin/env bash
 name=$(basename "$0")
+[ "$name $1" != 'rt version' ] || { echo 'rattle-kit-9 logic 9a'; exit; }
 [ "$name" != run ] || case " $* " in
   *'not built'*) name=sources ;; *--program*) name=released ;; *--released*) name=tests ;; *--seconds*) name=fuzz ;;
 esac
@@ -189,9 +194,10 @@ def whole_gate(folder, fails):
         shutil.copy(TOP / ".ci" / name, top / ".ci")
     (top / "crates/pb_page").mkdir(parents=True)
     (top / "crates.txt").write_text("pb_page:\npb_c staticlib: pb_page itoa\n")
+    (top / "README.md").write_text("Proved with `rattle-kit-8`, `logic 8b` (the line of `rt version`).\n")
     environment = {**os.environ, "PATH": f"{folder}/tools:{os.environ['PATH']}", "NOTES": str(notes), "FAILS": fails,
                    "TOP": str(TOP)}
-    ran = subprocess.run([top / ".ci/run"], env={**environment, "TMPDIR": str(folder)}, capture_output=True, text=True, timeout=300,
+    ran = subprocess.run([top / ".ci/run"], env={**environment, "TMPDIR": str(folder)}, capture_output=True, text=True, timeout=1200,
                          check=False)  # fmt: skip
     return ran.returncode, ran.stdout + ran.stderr, sorted(notes.read_text().split())
 
@@ -222,6 +228,7 @@ def test_gate(room, fails):
         assert {"What was left out:", "  SKIPPED [1] test_bare.py:9: lintian is not installed",
                 "stat::number_of_executed_units: 7"} <= {*said.splitlines()}  # fmt: skip
         assert {"rt ci", "edits", "built", "fuzz"} <= {*re.findall(r"(?m)^ +[0-9]+:[0-9]{2}  (.*)$", said)}
+        assert said.endswith("\nThe README names rattle-kit-8 logic 8b, and this run was by rattle-kit-9 logic 9a.\n")
 
 
 # What the kit says of a crate of whom it knows no more than the folder.

@@ -1,11 +1,13 @@
 """What is told of files that are refused, by the program, the C library, the Python package and the page's module, as
 tables/hints.txt says."""
 import os
+import re
 import subprocess
 
 import pytest
 
 import by_node
+import c_library
 import calls
 import pbaudit
 import tables
@@ -26,6 +28,15 @@ def changed(room, row):
     return room
 
 
+def refusal_of(changed, words):
+    """With what Python refuses the files of a command."""
+    (changed / "missing").touch()
+    command, names, named, _ = calls.parts(words)
+    with pytest.raises(pbaudit.Refusal) as refusal:
+        AUDITS[command](*(changed / name for name in names), **{option: changed / name for option, name in named.items()})
+    return refusal.value
+
+
 @on_each
 def test_program(run, changed, row, words):
     ran = run(*words, cwd=changed)
@@ -36,23 +47,31 @@ def test_program(run, changed, row, words):
 @on_each
 def test_c(caller, changed, row, words):
     facts = calls.facts_of(row.text.encode())
-    kind = calls.INPUTS.get(facts.input, pbaudit._auditor._KINDS.get(words[0]))
+    kind = c_library.KINDS.get(facts.input, c_library.CERTIFICATES.get(words[0]))
     election = [] if facts.input == "election" else [words[1]]
     told = subprocess.run([caller, "once", "hint", f"{kind}:{facts.number}:{facts.record}", row.name, *election],
                           cwd=changed, capture_output=True, check=True)  # fmt: skip
-    assert told.stdout.decode() == calls.hint_in("\n".join([*row.told, ""]).encode()).sentences + "\n"
+    _, sentences = calls.hint_in("\n".join([*row.told, ""]).encode())
+    assert told.stdout.decode() == "".join(sentence + "\n" for sentence in sentences)
 
 
 @on_each
 def test_python(auditor, changed, row, words, monkeypatch):
     monkeypatch.setattr(pbaudit._auditor, "_found", auditor, raising=False)
-    (changed / "missing").touch()
-    command, names, named, _ = calls.parts(words)
-    with pytest.raises(pbaudit.Refusal) as refusal:
-        AUDITS[command](*(changed / name for name in names), **{option: changed / name for option, name in named.items()})
-    why = refusal.value
+    why = refusal_of(changed, words)
     assert (why.printed, os.fspath(why.file)) == (row.printed[0], str(changed / row.name))
-    assert pbaudit._auditor.Hint(why.line, why.reason) == calls.hint_in("\n".join([*row.told, ""]).encode())
+    assert (why.line, (*why.reason.split("\n"),)) == calls.hint_in("\n".join([*row.told, ""]).encode())
+
+
+@on_each
+def test_python_by_the_program(program, changed, row, words, monkeypatch):
+    """The sentences come as the program writes them, and the line is counted in the file."""
+    monkeypatch.setattr(pbaudit._auditor, "_found", pbaudit._auditor._Program(str(program)), raising=False)
+    why, told = refusal_of(changed, words), "\n".join([*row.told, ""]).encode()
+    assert (why.printed, why.line) == (row.printed[0], calls.hint_in(told)[0])
+    named = {words[1]: "election", row.name: why.input}
+    assert why.sentences() == [re.sub(r"^[^:]+", lambda name: named[name[0]], line) for line in row.told]
+    assert why.reason == "\n".join(why.sentences())
 
 
 @on_each

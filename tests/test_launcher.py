@@ -21,7 +21,7 @@ KEPT = ("lib.rt", "main.rt", "version.rt", "First.antt", "Lib.antt")
 TOOLS = ("bash", "basename", "cat", "chmod", "cp", "dirname", "env", "find", "flock", "ln", "mkdir", "mktemp", "mv", "readlink", "rm",
          "rmdir", "sed", "sha256sum", "sleep", "sort", "tail", "tee", "touch", "xargs")  # fmt: skip
 BELOW = {"pb_audit", "pb_case", "pb_certificate", "pb_cohesion", "pb_command", "pb_election", "pb_explain", "pb_figures",
-         "pb_group_parts", "pb_hints", "pb_input", "pb_markup", "pb_money", "pb_page", "pb_parts", "pb_price", "pb_price_parts",
+         "pb_group_parts", "pb_hints", "pb_input", "pb_json", "pb_markup", "pb_money", "pb_page", "pb_parts", "pb_price", "pb_price_parts",
          "pb_records", "pb_reply", "pb_run", "pb_tables", "pb_visible", "pb_words"}  # fmt: skip
 RT = r"""#!/usr/bin/env bash
 # What rt does here: it notes the call, does what $RT_DOES says, and leaves a program, the C library, or a library where
@@ -46,7 +46,7 @@ echo 'rt: chose 2 jobs for pb_money'
 case $RT_DOES in
   fail) echo 'no proof of a promise' >&2; exit 1 ;;
   nothing) exit 0 ;;
-  slow | slow_fail) for _ in {1..300}; do [ -e "$RT_LOG.go" ] || sleep 0.1; done ;;&
+  slow | slow_fail) for _ in {1..3000}; do [ -e "$RT_LOG.go" ] || sleep 0.1; done ;;&
   slow_fail) exit 1 ;;
   meanwhile) sleep 0.1; echo >> ../pb_money/src/lib.rt ;;
 esac
@@ -195,7 +195,7 @@ def built(room, proved):
 
 
 def until(holds, what):
-    end = time.monotonic() + 60
+    end = time.monotonic() + 300
     while not holds():
         assert time.monotonic() < end, what
         time.sleep(0.05)
@@ -335,7 +335,7 @@ def test_one_build_waits_for_another(built, first, kill, second, builds):
     until(lambda: ":" in built.log.read_text(), "the first build")
     if kill:
         one.send_signal(kill)
-        one.wait(60)
+        one.wait(300)
         if first == "pbaudit":
             change(built.copy / "HANDLES")
     two = built.begin("read" if second == "pbaudit" else "lib", what=second, path=path)

@@ -12,13 +12,14 @@ import pytest
 import calls
 import cases
 import tables
+from c_library import CULPRITS, INPUTS, ON_GROUPS, Answer, Facts, FactsOfC
 from common import HERE, needs
 from pbaudit import _auditor, _places
 from test_answers import ON_EXAMPLES
 
 BY_CHANCE = 2000
 SMALL_STACK = 128 * 1024
-FACTS = ctypes.sizeof(_auditor._FactsOfC)
+FACTS = ctypes.sizeof(FactsOfC)
 EXAMPLES = tables.EXAMPLES
 
 
@@ -26,15 +27,14 @@ def commands():
     """The commands of examples/answers.txt that the library has: words, the text and the status."""
     for command, text, status, _ in ON_EXAMPLES:
         words = command.split(" ")
-        if words[0] in _auditor._QUESTIONS and all((EXAMPLES / word).exists() for word in words[1:] if "." in word):
+        if words[0] in (*_auditor._QUESTIONS, "groups") and all((EXAMPLES / word).exists() for word in words[1:] if "." in word):
             yield pytest.param(words, text.encode(), int(status), id=command)
 
 
 COMMANDS = list(commands())
-on_examples = pytest.mark.parametrize("words, text, status", COMMANDS)
 # What is said of groups, by the number of the header: school.prices.csv has budgets of 1000 for a limit of 100000,
 # district.shares.prices.csv of 111000 for one of 111000, and district.prices.csv of 156000.
-ON_GROUPS = {
+SAID_OF_GROUPS = {
     "groups - school.pb school.prices.csv": 1,
     "groups e school.pb school.prices.csv": 1,
     "groups - district.pb district.shares.prices.csv": 2,
@@ -60,10 +60,17 @@ CALLS = {
     "hint 6:21:1 sample.outcome.csv": "",
     "hint 2:14:3 sample.outcome.csv": "record 3: the vote names something that is no project's id\n",
 }  # fmt: skip
+# What the table of groups asks of the examples with --groups.
+ON_GROUP_FIGURES = [
+    pytest.param(words, row.text.encode(), row.status, id=" ".join(words)) for row, words, files in tables.asked("groups.txt")
+    if "--groups" in words and all((EXAMPLES / name).exists() for name in files)
+]
+COMMANDS += ON_GROUP_FIGURES
 EACH_CALL = [pytest.param(calls.caller_words(each.values[0]), *each.values[1:], id=each.id) for each in COMMANDS]
 EACH_CALL += [pytest.param(call.split(" "), text.encode(), 0, id=call) for call, text in CALLS.items()]
-EACH_CALL += [pytest.param(call.split(" "), b"", number, id=call) for call, number in ON_GROUPS.items()]
+EACH_CALL += [pytest.param(call.split(" "), b"", number, id=call) for call, number in SAID_OF_GROUPS.items()]
 each_call = pytest.mark.parametrize("words, text, status", EACH_CALL)
+on_examples = pytest.mark.parametrize("words, text, status", COMMANDS)
 
 
 def told_by(words, folder=EXAMPLES):
@@ -90,7 +97,7 @@ def test_symbols_are_the_functions_of_the_header(library, name):
     interface, functions = interface_of(library / "pbaudit.h")
     version = f"PBAUDIT_{interface}"
     assert sorted(symbols) == sorted([version, *(f"{each}@@{version}" for each in functions)] if is_shared else functions)
-    assert len(functions) == 5
+    assert len(functions) == 8
 
 
 def test_shared_library_has_the_name_of_its_interface(library):
@@ -102,13 +109,14 @@ def test_shared_library_has_the_name_of_its_interface(library):
 
 
 def test_numbers_of_the_header(library):
-    """They are those by which the package asks, and reads what is told in numbers."""
+    """They are those by which the package asks, and in which more is told."""
     numbers, at, listed = {}, 0, "".join(re.findall(r"enum \{[^}]*\}", (library / "pbaudit.h").read_text()))
     for name, given in re.findall(r"PBAUDIT_(\w+)(?: = (\d+))?", listed):
         numbers[name] = at = int(given or at + 1)
-    wanted = {f"{name.upper()}_FILE": at for at, name in enumerate(_auditor._REFUSED, 1)}
-    wanted |= {name.upper(): at for at, name in [*enumerate(_auditor._QUESTIONS), *_auditor._CULPRITS.items()]}
-    wanted |= {name.upper(): at for at, name in enumerate(_auditor._ON_GROUPS) if name}
+    wanted = {f"{name.upper()}_FILE": at for at, name in enumerate(INPUTS, 1)}
+    names = [*enumerate(_auditor._QUESTIONS), *CULPRITS.items()]
+    wanted |= {name.upper().replace("+", "_PLUS"): at for at, name in names}
+    wanted |= {name.upper(): at for at, name in enumerate(ON_GROUPS) if name}
     assert numbers == wanted
 
 
@@ -150,18 +158,87 @@ def test_it_needs_the_c_library_alone(library):
     assert re.search(r"GNU_STACK.* RW ", told_by(["readelf", "-lW", "libpbaudit.so"], library).stdout.decode())
 
 
+def test_room_of_facts():
+    """It is as much as the package has."""
+    facts = _auditor._Library.FACTS
+    assert (ctypes.sizeof(facts), ctypes.alignment(facts)) == (FACTS, ctypes.alignment(FactsOfC))
+
+
 @on_examples
-def test_example(run, auditor, words, text, status):
+def test_example(run, c_library, words, text, status):
     files = files_of(words)
     question, answer = calls.question(words, files), calls.answer(words, files, text, status)
-    assert auditor.ask(question) == answer
+    assert c_library.ask(question) == answer
     errors = run(*words).stderr
     if status == 2:
-        assert auditor.hint(question, answer.facts) == calls.hint_in(errors)
+        assert c_library.hint(question, answer.facts) == hint_of(errors)
     if words[0] == "prices" and status == 0:
-        assert (auditor.says_of_groups(question) == "little") == (b"note: the voter budgets" in errors)
+        assert (c_library.says_of_groups(question) == "little") == (b"note: the voter budgets" in errors)
     if words[0] == "explain":
-        assert auditor.ask(dataclasses.replace(question, command="page")).facts == answer.facts
+        page = "groups_page" if "--groups" in words else "page"
+        assert c_library.ask(dataclasses.replace(question, command=page)).facts == answer.facts
+
+
+def hint_of(errors):
+    """The line and the text of the hint that the program gives."""
+    line, sentences = calls.hint_in(errors)
+    return line or 0, "".join(sentence + "\n" for sentence in sentences)
+
+
+def reported(run, words, **given):
+    """What the program prints, and what pbaudit_report has to say."""
+    ran = run(*words, **given)
+    command, *_ = calls.parts(words)
+    is_object = command not in ("margins", "tidy", "group_margins")
+    object_line = run(*words, "--json", **given).stdout if is_object else b""
+    return ran, calls.report(command, ran.stdout, ran.stderr, object_line)
+
+
+@on_examples
+def test_report(run, caller, words, text, status):
+    """All in one call, also where each allocation fails, and on a small stack."""
+    command, *rest = calls.caller_words(words)
+    call = [f"report-{command}", *rest]
+    _, whole = reported(run, words)
+    told = told_by([caller, "once", *call])
+    assert (told.returncode, told.stdout.split(b"\n"), told.stderr) == (status, whole.split(b"\n"), b"")
+    assert whole.endswith(text)
+    assert sum(numbers_of([caller, "memory", *call])) > 0
+    assert 0 < numbers_of([caller, "stack", *call])[0] < SMALL_STACK
+
+
+def test_figures_of_the_table_are_asked():
+    """Of both measures, explained and as margins."""
+    assert len({calls.caller_words(each.values[0])[0] for each in ON_GROUP_FIGURES}) == 4
+
+
+@pytest.mark.parametrize("language", ["en", "de"])
+@pytest.mark.parametrize("measure", ["cost", "count"])
+@pytest.mark.parametrize("files", [["school.pb"], ["sample.pb", "sample.outcome.csv"]], ids="-".join)
+def test_page_of_groups(run, c_library, files, measure, language):
+    """It is the program's, with the names of the files."""
+    election, *outcome = files
+    words = ["page", election, "--groups", "--satisfaction", measure, *[f"--outcome={name}" for name in outcome]]
+    ran = run(*words, "--language", language)
+    page = _auditor.PageWords(election, outcome=outcome[0] if outcome else "outcome", language=language)
+    data = [(EXAMPLES / name).read_bytes() for name in files]
+    question = _auditor.Question("groups_page", data[0], outcome=data[1] if outcome else None, page=page, satisfaction=measure)
+    answer = c_library.ask(question)
+    assert (answer.status, answer.text) == (ran.returncode, ran.stdout) and b"<html" in answer.text
+    words, size = c_library.words(question), len(answer.text)
+    out, needed = ctypes.create_string_buffer(b"\xaa" * size, size), ctypes.c_size_t(99)
+    facts = FactsOfC()
+    assert c_library.groups_page(*words, ctypes.byref(facts), out, size - 1, ctypes.byref(needed)) == answer.status
+    assert (out.raw, needed.value, facts.value()) == (b"\xaa" * size, size, answer.facts)
+
+
+def test_page_of_groups_in_no_language(c_library):
+    page = _auditor.PageWords(language="xx")
+    words = c_library.words(_auditor.Question("groups_page", (EXAMPLES / "school.pb").read_bytes(), page=page))
+    out, needed = ctypes.create_string_buffer(b"\xaa" * 9, 9), ctypes.c_size_t(99)
+    facts = FactsOfC.from_buffer_copy(b"\xaa" * FACTS)
+    assert c_library.groups_page(*words, ctypes.byref(facts), out, 9, ctypes.byref(needed)) == 3
+    assert (out.raw, needed.value, facts.value()) == (b"\xaa" * 9, 0, Facts())
 
 
 @pytest.fixture(scope="module", params=["shared", "static"])
@@ -181,33 +258,33 @@ def test_example_in_c(example, words, text, status):
     assert (ran.returncode, ran.stdout) == (status, text)
 
 
-def called(auditor, words, room, size):
+def called(c_library, words, room, size):
     """What a call gives that is told of so much room, of so many bytes that are to stay where nothing is written."""
     out, needed = ctypes.create_string_buffer(b"\xaa" * size, size), ctypes.c_size_t(99)
-    facts = _auditor._FactsOfC.from_buffer_copy(b"\xaa" * FACTS)
-    status = auditor._answer(*words, ctypes.byref(facts), out, room, ctypes.byref(needed))
+    facts = FactsOfC.from_buffer_copy(b"\xaa" * FACTS)
+    status = c_library.answer(*words, ctypes.byref(facts), out, room, ctypes.byref(needed))
     return status, needed.value, out.raw, facts.value()
 
 
-def test_by_chance(run, auditor, seed, by_chance, room):
+def test_by_chance(run, c_library, seed, by_chance, room):
     """A case of which a file is damaged, also with a room that is just enough and with one that isn't."""
     case = cases.without_folders(seed, by_chance, damaged=1.0)
     cases.write_files(room, case.files)
     ran = run(*case.words, cwd=room)
     question = calls.question(case.words, case.files)
     answer = calls.answer(case.words, case.files, ran.stdout, ran.returncode)
-    assert auditor.ask(question) == answer
-    words, size = auditor.words(question), len(answer.text)
-    assert called(auditor, words, size, size + 1) == (answer.status, size, answer.text + b"\xaa", answer.facts)
-    assert called(auditor, words, size - 1, size) == (answer.status, size, b"\xaa" * size, answer.facts)
+    assert c_library.ask(question) == answer
+    words, size = c_library.words(question), len(answer.text)
+    assert called(c_library, words, size, size + 1) == (answer.status, size, answer.text + b"\xaa", answer.facts)
+    assert called(c_library, words, size - 1, size) == (answer.status, size, b"\xaa" * size, answer.facts)
     if ran.returncode == 2:
-        assert auditor.hint(question, answer.facts) == calls.hint_in(ran.stderr)
+        assert c_library.hint(question, answer.facts) == hint_of(ran.stderr)
 
 
-@pytest.mark.parametrize("number", [8, 255])
-def test_no_such_question(auditor, number):
-    _, *words = auditor.words(_auditor.Question("read", b""))
-    assert called(auditor, [number, *words], 9, 9) == (3, 0, b"\xaa" * 9, _auditor.Facts())
+@pytest.mark.parametrize("number", [14, 255])
+def test_no_such_question(c_library, number):
+    _, *words = c_library.words(_auditor.Question("read", b""))
+    assert called(c_library, [number, *words], 9, 9) == (3, 0, b"\xaa" * 9, Facts())
 
 
 def numbers_of(words):
@@ -236,8 +313,8 @@ def test_call(calling, words, text, status):
 @on_examples
 def test_facts(calling, words, text, status):
     told = told_by([*calling, "facts", *calls.caller_words(words)])
-    facts = _auditor._FactsOfC.from_buffer_copy(told.stdout).value()
-    assert _auditor.Answer(told.returncode, told.stdout[FACTS:], facts) == calls.answer(words, files_of(words), text, status)
+    facts = FactsOfC.from_buffer_copy(told.stdout).value()
+    assert Answer(told.returncode, told.stdout[FACTS:], facts) == calls.answer(words, files_of(words), text, status)
     assert told.stderr == b""
 
 

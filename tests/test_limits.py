@@ -71,6 +71,27 @@ def outcome(projects):
     yield from rows(lambda j: f"project,p{j}\n", projects)
 
 
+def approvals_apart(budget):
+    """The most voters and the most projects, each voter of whom approves one: 50 each."""
+    yield HEAD.format(budget=budget)
+    yield from rows(lambda j: f"p{j};1;0\n", MOST_PROJECTS)
+    yield "VOTES\nvoter_id;vote\n"
+    yield from rows(lambda i: f"{i};p{(i - 1) % MOST_PROJECTS + 1}\n", MOST_VOTERS)
+
+
+BITS = 19
+
+
+def all_that_they_got(budget):
+    """The most voters, who all approve the unfunded c; of the funded projects, which cost the powers of 2, they approve those of the
+    bits of a number that falls from 475,711 to 0, and then from 524,287."""
+    yield HEAD.format(budget=budget)
+    yield "".join(f"b{bit};{1 << bit};1\n" for bit in range(BITS)) + "c;1;0\n"
+    yield "VOTES\nvoter_id;vote\n"
+    got = [",".join(["c", *(f"b{bit}" for bit in range(BITS) if number >> bit & 1)]) for number in range(1 << BITS)]
+    yield from rows(lambda i: f"{i};{got[(MOST_VOTERS - i) % (1 << BITS)]}\n", MOST_VOTERS)
+
+
 def and_then(texts, more):
     yield from texts
     yield more
@@ -194,8 +215,27 @@ def certificates():
     yield "a project where there are none", "prices", [bare, [head], ["pb-outcome,1\nproject,a\n"]], refused
 
 
+def short_groups():
+    """Cases of the command groups: a name, its files, the line."""
+    whole = ",".join(f"p{j}" for j in range(1, MOST_PROJECTS + 1))
+    short, yes = "failed EJR+ by cost voters {} project {}", "satisfied ejr+ by cost"
+    yield "all approve one project", [election(MOST_PROJECTS, MOST_VOTERS, "p1")], short.format(MOST_VOTERS, "p1")
+    yield "nobody approves anything", [election(MOST_PROJECTS, MOST_VOTERS, "")], yes
+    # A project costs 1, and the share of 50 of the 1,000,000 voters is that or less.
+    yield "voters approve others each", [approvals_apart(20_000)], short.format(50, "p1")
+    yield "voters approve others each, and have less", [approvals_apart("19999.999999")], yes
+    # Who got most needs 524,288, and nobody is left out; 999,999 voters got less.
+    yield "all that voters can get", [all_that_they_got(524_288)], short.format(MOST_VOTERS, "c")
+    yield "all that voters can get, and less", [all_that_they_got("524287.999999")], short.format(MOST_VOTERS - 1, "c")
+    most, all_but_one = MOST_APPROVALS // MOST_PROJECTS, outcome(MOST_PROJECTS - 1)
+    yield "20,000,000 approvals", [election(MOST_PROJECTS, most, whole), outcome(MOST_PROJECTS)], yes
+    yield "20,000,000 approvals and one project", [election(MOST_PROJECTS, most, whole), all_but_one], short.format(most, f"p{MOST_PROJECTS}")
+
+
 def cases():
-    """All cases: a name, the command, its files, the lines. A last file of three is an outcome."""
+    """All cases: a name, the command, its files, the lines. A last file behind those that the command needs is an outcome."""
+    for name, files, line in short_groups():
+        yield f"groups {name}", "groups", files, line
     for name, texts, lines in elections():
         yield f"read {name}", "read", [texts], lines
     for name, command, files, lines in certificates():
@@ -241,7 +281,8 @@ CASES = list(cases())
 @pytest.mark.parametrize("name, command, files, lines", CASES, ids=[case[0] for case in CASES])
 def test_limit(program, room, name, command, files, lines):
     paths = [write(room, f"{number}.txt", texts) for number, texts in enumerate(files)]
-    words = [command, *paths[:2], *(["--outcome", paths[2]] if len(paths) == 3 else [])]
+    needed = 1 if command == "groups" else 2
+    words = [command, *paths[:needed], *(["--outcome", *paths[needed:]] if paths[needed:] else [])]
     text, told, status, seconds, megabytes = run(program, words, room)
     print(f"{name:52.52} {seconds:6.2f} s {megabytes:7.0f} MB")
     assert (text.strip("\n"), status) == (lines.strip("\n"), tables.status_of([lines]))

@@ -1,4 +1,4 @@
-"""Runs the commands that pages about certificates tell their readers to run, for files of many names.
+"""Runs the commands that pages tell their readers to run, for files of many names.
 
 In a folder lie the examples under names with quotes, blanks, `$( )`, line ends, a dash in front, 200 letters and more. Of each page
 the text is taken as a browser gives it, and a command in it is run there by a shell, once by a stand-in that keeps its arguments,
@@ -107,6 +107,25 @@ def test_election(files, shell, name):
     files.put("-o.csv", "sample.outcome.csv")
     page = files.page(f"./{name}", "p.csv", "--outcome", "./-o.csv")
     look_at_command(files, shell, page, ["explain", as_word(name), "p.csv", "--outcome", "./-o.csv"])
+
+
+@pytest.mark.parametrize("name", WORDS)
+def test_groups(files, shell, name):
+    files.put(name, "sample.pb")
+    files.put("-o.csv", "sample.outcome.csv")
+    page = files.page("--groups", f"./{name}", "--satisfaction", "count")
+    look_at_command(files, shell, page, ["explain", as_word(name), "--groups", "--satisfaction", "count"])
+    page = files.page("--groups", f"./{name}", "--outcome", "./-o.csv")
+    look_at_command(files, shell, page, ["explain", as_word(name), "--outcome", "./-o.csv", "--groups"])
+
+
+@pytest.mark.parametrize("name", [name for name in NO_WORDS if name != "town.pb"])
+def test_no_command_on_groups(files, name):
+    files.put(name, "sample.pb", "elsewhere")
+    files.put("o.csv", "sample.outcome.csv")
+    page = files.page("--groups", f"../elsewhere/{name}", "--satisfaction", "count", "--outcome", "o.csv")
+    assert "pbaudit explain" not in page
+    assert " Its options: --outcome --groups --satisfaction count.<br>It answers: <code>" in page
 
 
 @pytest.mark.parametrize("name", NO_WORDS)

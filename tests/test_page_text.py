@@ -1,4 +1,5 @@
-"""Compares the whole text of the program's page about a certificate with the page of the reference, in four languages.
+"""Compares the whole text of the program's page, about a certificate or about groups that fall short, with the page of the reference,
+in four languages.
 
 The elections are made by chance, and some of their files damaged (page_cases.py). Each text, label, class that tells something and
 number of a style is a piece of a page, and all pieces have to be those of the reference (reference/page), in their order; where a
@@ -16,7 +17,7 @@ import saying
 import tables
 from cases import Case, write_files
 from page_turns import TURNS
-from reference.answers import REFUSED, RefusedInput, answer
+from reference.answers import GROUPS, REFUSED, RefusedInput, answer
 from reference.page import wording
 from reference.page.nodes import Reader, pieces_of
 from reference.page.whole import Audit
@@ -33,10 +34,18 @@ AROUND = 3
 
 def audit_of(case, room):
     """What the reference finds of a case."""
-    paths = [os.path.join(room, word) for word in case.words[-2:]]
-    options = case.words[1:-2]
-    outcome = os.path.join(room, options[options.index("--outcome") + 1]) if "--outcome" in options else None
-    return Audit(*paths, [word for word in options if word.startswith("--")], outcome)
+    # Of groups the election is the last word, and there is no certificate.
+    count = 1 if GROUPS in case.words else 2
+    paths, options = [os.path.join(room, word) for word in case.words[-count:]], case.words[1:-count]
+    outcome = os.path.join(room, behind(options, "--outcome")) if "--outcome" in options else None
+    if count == 1:
+        return Audit(*paths, outcome=outcome, measure=behind(options, "--satisfaction") or "cost")
+    return Audit(*paths, mode=[word for word in options if word.startswith("--")], outcome=outcome)
+
+
+def behind(options, name):
+    """The word behind an option; None where it isn't given."""
+    return options[options.index(name) + 1] if name in options else None
 
 
 def with_language(case, language):
@@ -136,6 +145,15 @@ def test_each_sentence_comes(seed, option):
 
 def test_reference_answers_by_itself(run):
     words = ["page", "district.pb", "district.short.prices.csv", "--stable", "--language", "de"]
+    text, status, _ = answer([str(tables.EXAMPLES / word) if "." in word else word for word in words])
+    said = run(*words)
+    pieces, _ = pieces_said(saying.Said(said.stdout, said.returncode))
+    assert (text.decode().splitlines(), status) == ([piece for _, piece in pieces], said.returncode)
+
+
+@pytest.mark.parametrize("measure", ["cost", "count"])
+def test_reference_answers_on_groups(run, measure):
+    words = ["page", "school.pb", GROUPS, "--satisfaction", measure, "--language", "pl"]
     text, status, _ = answer([str(tables.EXAMPLES / word) if "." in word else word for word in words])
     said = run(*words)
     pieces, _ = pieces_said(saying.Said(said.stdout, said.returncode))

@@ -41,7 +41,7 @@ HEADLINES = {
     "sturdy": "The prices support this outcome in the stable form", "over": NO,
     "violation": "This group was treated worse than it deserves",
     "small": "This certificate doesn’t prove unfair treatment",
-    "polish": "Ceny uzasadniaj\u0105 ten wynik", "german": "Die Preise st\u00fctzen dieses Ergebnis nicht",
+    "polish": "Ceny wspieraj\u0105 ten wynik", "german": "Die Preise st\u00fctzen dieses Ergebnis nicht",
     "french": "Ce certificat ne prouve aucun traitement injuste",
     "many": "The prices support this outcome", "hostile": NO,
 }  # fmt: skip

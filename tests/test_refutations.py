@@ -2,35 +2,21 @@
 
 All price certificates of small elections are gone through, and all small refutations: none of the first is supported
 where one of the second is accepted. What a yes gives to groups is tried for every group, and each group that is passed
-over is made into a refutation. The reference answers, and on a part of it the program.
+over is made into a refutation. The same is tried of weights that refute stable prices alone. The reference answers, and on
+a part of it the program.
 """
 import itertools
 import random
 
 import pytest
 
-import saying
 import tables
-from cases import Case, write_files
 from reference import conditions, refutations
-from reference.certificates import Prices, Refutation
-from reference.election import Election
-
-MILLION = 10**6
-FORMS = [{"--no-exhaustive"}, {"--no-exhaustive", "--stable"}]
-
-
-@pytest.fixture(params=["reference", pytest.param("program", marks=pytest.mark.built)])
-def ask(request, room):
-    """Answers a command on files, by the reference and by the program: the text and the status."""
-    program = request.getfixturevalue("program") if request.param == "program" else None
-
-    def asked(words, files):
-        case = Case(words, files)
-        write_files(room, files)
-        said = saying.run(program, case, room) if program else saying.reference_says(case, room)
-        return said.text.decode(), said.status
-    return asked
+from reference.certificates import Prices
+from small import (
+    MILLION, PLAIN, STABLE, cost_of, election_file, election_of, groups, prices_file, reached, reaches_the_limit, small_elections,
+    small_refutations, spare_of_groups, subsets, supported,
+)  # fmt: skip
 
 
 WORKED_OUT = [pytest.param(*asked, id=tables.slug(asked[0].text)) for asked in tables.asked("refutations.txt")]
@@ -39,75 +25,6 @@ WORKED_OUT = [pytest.param(*asked, id=tables.slug(asked[0].text)) for asked in t
 @pytest.mark.parametrize("row, words, files", WORKED_OUT)
 def test_what_was_worked_out(row, words, files, ask):
     assert ask(words, files) == (row.text, row.status)
-
-
-# Elections: ballots are sets of projects, from 1; costs and limits are whole.
-
-
-def election_of(ballots, costs, limit):
-    ids = [b"p%d" % project for project in range(1, len(costs) + 1)]
-    amounts = {project: cost * MILLION for project, cost in enumerate(costs, 1)}
-    return Election(limit * MILLION, ids, amounts, {}, True, ballots, {}, {}, 0)
-
-
-def subsets(members):
-    members = list(members)
-    return [set(some) for size in range(len(members) + 1) for some in itertools.combinations(members, size)]
-
-
-def small_elections(voters, projects, costs):
-    """All ballots but for the order of the voters, all costs and outcomes but for the order of the projects, by the
-    limit that the outcome just uses and by one more."""
-    for ballots in itertools.combinations_with_replacement(subsets(range(1, projects + 1)), voters):
-        kinds = itertools.product(costs, (False, True))
-        for kind in itertools.combinations_with_replacement(list(kinds), projects):
-            funded = {project for project, (_, is_funded) in enumerate(kind, 1) if is_funded}
-            total = sum(cost for cost, is_funded in kind if is_funded)
-            for limit in (total, total + 1):
-                yield election_of(list(ballots), [cost for cost, _ in kind], limit), funded
-
-
-def splits(total, parts):
-    """All ways to share a number among so many."""
-    if parts == 1:
-        return [(total,)]
-    return [(first, *rest) for first in range(total + 1) for rest in splits(total - first, parts - 1)]
-
-
-def small_prices(election, funded, denominator):
-    """All prices by which each funded project is paid for exactly and nothing else is, whoever pays, with all budgets
-    from nothing to more than anybody can spend or the limit has. Others aren't supported, by C3 and C4."""
-    voters, paid = election.voters, sorted(funded)
-    costs = [election.costs[project] // MILLION * denominator for project in paid]
-    most = max(sum(costs), election.limit // MILLION * denominator // len(voters)) + 1
-    for shares in itertools.product(*(splits(cost, len(voters)) for cost in costs)):
-        payments = {(voter, project): amount for project, share in zip(paid, shares)
-                    for voter, amount in zip(voters, share) if amount}
-        for budget in range(most + 1):
-            yield Prices(denominator, budget, payments)
-
-
-def supported(election, funded, denominator):
-    """The prices that are supported in any form, each with whether they are so with Cover. Without Exhaustive the fewest
-    conditions are asked."""
-    for prices in small_prices(election, funded, denominator):
-        claim = conditions.Claim(election, funded, prices)
-        if any(conditions.first_failure(claim, form) is None for form in FORMS):
-            yield prices, any(conditions.first_failure(claim, form | {"--cover"}) is None for form in FORMS)
-
-
-def small_refutations(election, funded, most):
-    """All refutations of small weights, each project with a role that it may have."""
-    ranges = [range(-most, most + 1) if project in funded else range(most + 1) for project in election.projects]
-    for cover in range(most + 1):
-        for signed in itertools.product(*ranges):
-            yield refutation_of(funded, dict(zip(election.projects, signed)), cover)
-
-
-def refutation_of(funded, signed, cover):
-    roles = {project: b"left" if project not in funded else b"most" if weight < 0 else b"least"
-             for project, weight in signed.items()}
-    return Refutation(cover, roles, {project: abs(weight) for project, weight in signed.items()})
 
 
 # Voters, projects, costs, the denominator, the largest weight, and every how many elections one is tried.
@@ -131,31 +48,30 @@ def test_no_prices_are_supported_where_a_refutation_is_accepted(voters, projects
     assert min(refuted, with_cover, priced) > 0
 
 
+@pytest.mark.parametrize("voters, projects, costs, denominator, most, step", SMALL)
+def test_no_stable_prices_are_supported_where_weights_refute_them(voters, projects, costs, denominator, most, step):
+    """Weights that refute all prices do. Others may refute stable prices where there are plain ones."""
+    tally = {"refuted": 0, "with Cover": 0, "beside plain prices": 0, "with Cover beside plain prices": 0, "priced": 0}
+    for election, funded in itertools.islice(small_elections(voters, projects, costs), 0, None, step):
+        plain, stable = set(), set()
+        for weights in small_refutations(election, funded, most):
+            if refutations.first_failure(election, funded, weights, True) is None:
+                stable.add(weights.cover)
+            if refutations.first_failure(election, funded, weights) is None:
+                plain.add(weights.cover)
+                assert weights.cover in stable, (election, funded, weights)
+        found = [covered for _, covered in supported(election, funded, denominator, [STABLE])]
+        assert not (found if 0 in stable else any(found) if stable else False), (election, funded)
+        others = [covered for _, covered in supported(election, funded, denominator, [PLAIN])]
+        tally["refuted"] += 0 in stable
+        tally["with Cover"] += any(stable)
+        tally["beside plain prices"] += 0 in stable and bool(others)
+        tally["with Cover beside plain prices"] += any(stable) and any(others)
+        tally["priced"] += bool(found)
+    assert min(tally.values()) > 0, tally
+
+
 # What a yes gives to every group.
-
-
-def reached(election, funded, group):
-    """The funded projects that at least one of a group approves."""
-    return funded & set().union(*(election.ballot(voter) for voter in group))
-
-
-def groups(election):
-    """Every group with a member, and the projects that all of it approve."""
-    for group in subsets(election.voters)[1:]:
-        yield group, set.intersection(*(election.ballot(voter) for voter in group))
-
-
-def cost_of(election, projects):
-    return sum(election.costs[project] for project in projects)
-
-
-def spare_of_groups(election, funded):
-    """For each group and each unfunded project that all of it approve, by how much the project and what was funded for
-    the group cost more than the group's share of the limit, times the number of voters."""
-    for group, agreed in groups(election):
-        received = cost_of(election, reached(election, funded, group))
-        for project in agreed - funded:
-            yield len(election.ballots) * (election.costs[project] + received) - len(group) * election.limit
 
 
 def spare_of_demands(election, funded):
@@ -167,10 +83,6 @@ def spare_of_demands(election, funded):
             wanted = cost_of(election, demand)
             if len(group) * election.limit >= len(election.ballots) * wanted:
                 yield from (received + election.costs[project] - wanted for project in demand - funded)
-
-
-def reaches_the_limit(election, prices):
-    return len(election.ballots) * prices.budget * MILLION >= election.limit * prices.denominator
 
 
 @pytest.mark.parametrize("voters, projects, costs, denominator, most, step", SMALL)
@@ -229,16 +141,6 @@ def a_group(chance):
     return election, funded, group, wanted, received
 
 
-def election_file(election, funded):
-    rows = [b"%s;%d;%d" % (name, election.costs[project] // MILLION, project in funded)
-            for project, name in enumerate(election.ids, 1)]
-    votes = [b"%d;%s" % (voter, b",".join(election.id(project) for project in sorted(election.ballot(voter))))
-             for voter in election.voters]
-    units, rest = divmod(election.limit, MILLION)
-    return b"\n".join([b"META", b"key;value", b"budget;%d.%06d" % (units, rest), b"vote_type;approval", b"PROJECTS",
-                       b"project_id;cost;selected", *rows, b"VOTES", b"voter_id;vote", *votes, b""])
-
-
 def refutation_file(election, group, wanted, received):
     """The size of the group for Cover, and the number of voters for the project that it wants and for each that was
     funded for it."""
@@ -263,12 +165,6 @@ def test_a_group_whose_share_was_enough_is_a_refutation(ask):
     assert answers == {(True, True), (True, False), (False, False)}
 
 
-def prices_file(prices):
-    rows = [b"%d,p%d,%d" % (*pair, amount) for pair, amount in sorted(prices.payments.items())]
-    return b"\n".join([b"pb-prices,1", b"denominator,%d" % prices.denominator, b"voter_budget,%d" % prices.budget,
-                       b"voter,project,payment", *rows, b""])
-
-
 def test_the_program_answers_the_same(ask):
     """On some of the small elections: the yes to prices, and that to refutations."""
     answers = set()
@@ -289,4 +185,13 @@ def test_the_program_answers_the_same(ask):
             files = {"town.pb": town, "claim.csv": b"\n".join(claim)}
             assert ask(["refutation", "town.pb", "claim.csv"], files) == (told, 1 if failure else 0)
             answers.add(told)
-    assert len(answers) == 4, answers
+            if failure:
+                failure = refutations.first_failure(election, funded, refutation, True)
+                told = f"failed {failure[0]}\n" if failure else told_stable(refutation)
+            assert ask(["refutation", "town.pb", "claim.csv", "--stable"], files) == (told, 1 if failure else 0)
+            answers.add(told)
+    assert len(answers) == 5, answers
+
+
+def told_stable(refutation):
+    return "unpriceable stable cover\n" if refutation.cover else "unpriceable stable\n"

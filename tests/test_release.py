@@ -16,7 +16,7 @@ import pytest
 from common import TOP, cloned, needs, turned
 
 RELEASE = TOP / "release"
-MOST = 6_000_000
+MOST = 10_000_000
 SUMS, MADE_OF = "SHA256SUMS", "MADE-OF"
 # What each file is made of, by the names in MADE-OF, beside the program's sources and the kit.
 EVERY = {"version", "crates", "kit", "packaging"}
@@ -26,7 +26,7 @@ PAGE = EVERY | {"page", "wasm-opt", "builtins", "esbuild"}
 RESTS_ON = {
     "libpbaudit.so": LIBRARY, "libpbaudit.so.1": LIBRARY, "libpbaudit.a.xz": LIBRARY | {"xz"}, "pbaudit.h": LIBRARY, "pbaudit.pc": LIBRARY,
     "-aarch64.tar.xz": ARM_LIBRARY | {"xz"}, "pbaudit.html": PAGE, ".tgz": PAGE | {"tsc", "zlib"},
-    "aarch64.whl": ARM_LIBRARY | {"python", "zlib"}, ".whl": LIBRARY | {"python", "zlib"},
+    "aarch64.whl": ARM_LIBRARY | {"python", "zlib"}, "-any.whl": PAGE | {"python", "zlib"}, ".whl": LIBRARY | {"python", "zlib"},
 }  # fmt: skip
 # What packs all of it, and what has the sums of all files.
 OF_PACKAGES = {"gzip", "dpkg-deb"}
@@ -116,6 +116,7 @@ def test_what_is_made_without_the_kit(again, room):
         pytest.skip("rt is in /usr/bin")
     shown = (TOP / "docs/BYTES.md").read_text(encoding="utf-8").split("**Without the kit**")[1]
     commands = re.search(r"\n\n((?: {4}.*\n)+)", shown)[1].replace("release/", f"{again}/").replace("FOLDER", '"$1"')
+    commands = commands.replace("pbaudit-VERSION.tgz", the(again, "*.tgz").name)
     subprocess.run(["bash", "-euc", commands, "bash", room], cwd=TOP, env=os.environ | {"PATH": "/usr/bin:/bin"}, check=True,
                    stdout=subprocess.DEVNULL)  # fmt: skip
     assert {file.name for file in room.iterdir()} == {*made}
@@ -238,8 +239,16 @@ def inside(wheel, end):
 def test_wheel_has_library_and_program(again):
     wheel = the(again, "*x86_64.whl")
     assert inside(wheel, "/libpbaudit.so.1") == (again / "libpbaudit.so.1").read_bytes()
-    assert inside(wheel, ".data/scripts/pbaudit") == (again / "pbaudit").read_bytes()
+    assert inside(wheel, ".data/scripts/pbaudit") == (TOP / "python/backend/entry.py").read_bytes()
+    assert inside(wheel, "pbaudit/bin/pbaudit") == (again / "pbaudit").read_bytes()
     assert "manylinux_2_28_x86_64" in wheel.name
+
+
+def test_wheel_for_any_platform_has_the_package_for_javascript(again):
+    wheel = the(again, "*-py3-none-any.whl")
+    with tarfile.open(the(again, "*.tgz")) as package:
+        for name in ("command.js", "pbaudit.wasm", "package.json"):
+            assert inside(wheel, f"/node/{name}") == package.extractfile(f"package/{name}").read()
 
 
 def test_wheel_for_arm_has_its_library(again):

@@ -36,10 +36,11 @@ def is_linked(name):
 
 
 def wanted_crates(name):
-    """Of a file: the program stands on all of them, and a wheel for x86-64 has the program."""
+    """Of a file: the program stands on all of them, and the package for JavaScript and all wheels but that for ARM have it."""
     if not is_linked(name):
         return set()
-    return kits_crates("pbaudit") if name == "pbaudit" or name.endswith("x86_64.whl") else kits_crates("pb_c")
+    has_program = name == "pbaudit" or name.endswith(("x86_64.whl", "-any.whl", ".tgz"))
+    return kits_crates("pbaudit") if has_program else kits_crates("pb_c")
 
 
 def related(spdx, how, file, ahead):
@@ -105,7 +106,8 @@ zlib 1
 gzip a zipper
 dpkg-deb """ + "\n"
 NAMES = ("pbaudit", "_pbaudit", "pbaudit.1", "pbaudit.h", "libpbaudit.so.1", "libpbaudit.a.xz", "libpbaudit-aarch64.tar.xz",
-         "pbaudit.html", "pbaudit-0.2.0.tgz", "pbaudit-0.2.0-py3-none-manylinux_2_28_x86_64.whl", "pbaudit-0.2.0-py3-none-manylinux2014_aarch64.whl")  # fmt: skip
+         "pbaudit.html", "pbaudit-0.2.0.tgz", "pbaudit-0.2.0-py3-none-manylinux_2_28_x86_64.whl", "pbaudit-0.2.0-py3-none-manylinux2014_aarch64.whl",
+         "pbaudit-0.2.0-py3-none-any.whl")  # fmt: skip
 
 
 @pytest.fixture

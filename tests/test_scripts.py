@@ -16,19 +16,22 @@ WRONG = {
     "bench.py": [[], ["--unknown"], ["missing"], [sys.executable, "1"], [sys.executable, "10", "7"], [sys.executable, "x", "y"],
                  [sys.executable, "10", "10", "--plain=missing"]],
     "certificates.py": [["word"], ["--voters", "0"], ["--elections", "many"]],
+    "ending.py": [["word"], ["--elections", "0"], ["--processors", "many"], ["--seconds", "-1"]],
     "files.py": [["pb_none"]],
     "finding.py": [["missing"], ["/"], ["--unknown"], ["--different", sys.executable]],
     "hostile.py": [[], ["--small"], ["--program", "missing"], ["--program", "/"], ["--library", "missing"], ["--page", "missing"],
                    ["--package", "missing"], [sys.executable], ["--program", sys.executable, "--only", "none"]],
+    "near.py": [["word"], ["--voters", "0"], ["--seeds", "many"], ["--seconds", "-1"]],
     "prices.py": [[], ["one"], ["--unknown"]],
     "python_values.py": [["10"], ["0", "10"], ["a", "b"], ["10", "7"], ["--unknown"]],
+    "starting.py": [[], ["missing"], ["/"]],
     "web.py": [[], ["page"], ["page", "missing"], ["page", sys.executable, "3"], ["page", sys.executable, "--folder", "0"],
                ["page", sys.executable, "--folder", "many"], ["page", sys.executable, "10", "10", "--folder", "1"]],
 }  # fmt: skip
 
 
 def run(script, *words, **how):
-    return subprocess.run([sys.executable, script, *words], capture_output=True, text=True, timeout=60, **how)
+    return subprocess.run([sys.executable, script, *words], capture_output=True, text=True, timeout=600, **how)
 
 
 def test_there_are_wrong_words_for_each_script():
@@ -50,6 +53,7 @@ def test_wrong_words(script, words):
 
 @pytest.mark.parametrize("name, words", [
     ("python_values.py", ["10", "8"]), ("certificates.py", ["--elections", "1", "--voters", "1000"]),
+    ("near.py", ["--voters", "5", "--projects", "4", "--seeds", "1"]), ("ending.py", ["--elections", "1"]),
 ])  # fmt: skip
 def test_nothing_is_built(room, name, words):
     """Where neither the library nor the program is there, the scripts that need one say so."""

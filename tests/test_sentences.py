@@ -1,6 +1,6 @@
 """The sentences of the page in its languages: each has the placeholders of the English one, is used, and has what fills them. That
-each language has each sentence is seen by the compiler too. They are read from crates/pb_words/src/wording, and the placeholders,
-in braces, are those that the parts of the page, in crates/pb_page and the crates below it, fill."""
+each language has each sentence is seen by the compiler too. They are read from crates/pb_words/src/wording and its folders, and the
+placeholders, in braces, are those that the parts of the page, in crates/pb_page and the crates below it, fill."""
 import re
 
 import pytest
@@ -11,13 +11,14 @@ CRATES = TOP / "crates"
 WORDS = CRATES / "pb_words" / "src"
 PAGE = [CRATES / f"pb_{name}" / "src" for name in ("case", "tables", "price_parts", "group_parts", "parts", "page")]
 LANGUAGES = ("en", "pl", "de", "fr")
-ARM = re.compile(r'Sentence::(\w+)(\([^)]*\))? =>\s*"((?:[^"\\]|\\.)*)"', re.DOTALL)
+ARM = re.compile(r'((?:Sentence|StableWeights|ShortGroups)::\w+)(\([^)]*\))? =>\s*"((?:[^"\\]|\\.)*)"', re.DOTALL)
 PLACEHOLDER = re.compile(r"(?<!\\u)\{(\w+)\}")
 
 
 def sentences(language):
     """The sentences of a language, each with its name and the form for a number of things."""
-    text = (WORDS / "wording" / f"{language}.rt").read_text(encoding="utf-8")
+    files = sorted((WORDS / "wording").rglob(f"{language}.rt"))
+    text = "".join(file.read_text(encoding="utf-8") for file in files)
     return [(name, form or "", words) for name, form, words in ARM.findall(text)]
 
 
@@ -42,5 +43,5 @@ def test_language(language):
 
 @pytest.mark.parametrize("name", WANTED)
 def test_sentence_is_used_and_filled(name):
-    assert re.search(rf"Sentence::{name}\b", PARTS)
+    assert re.search(rf"\b{name}\b", PARTS)
     assert set(WANTED[name]) <= set(re.findall(r'"(\w+)"', PARTS))

@@ -109,9 +109,11 @@ STAND_INS = {
     "pbaudit": 'mkdir -p "$here/crates/pbaudit/out"; cp "$WORD" "$here/crates/pbaudit/out/pbaudit.o"',
     "pbaudit-library": 'to=${3:-$1}; mkdir -p "$to"; for name in so.1 a; do cp "$WORD" "$to/libpbaudit.$name"; done; '
                        'ln -sf libpbaudit.so.1 "$to/libpbaudit.so"; touch "$to/pbaudit.h" "$to/pbaudit.pc"',
-    "pbaudit-web": 'mkdir -p "$1"; cp "$WORD" "$1/pbaudit.html"',
+    "pbaudit-web": 'mkdir -p "$1"; for name in html wasm; do cp "$WORD" "$1/pbaudit.$name"; done',
     "packaging/link": 'cp "$1" "$2"',
-    "packaging/javascript": 'touch "$3/pbaudit-$("$here/version" --state).tgz"',
+    "packaging/javascript": 'mkdir "$3/package"; for name in command.js pbaudit.wasm package.json; do cp "$WORD" "$3/package/$name"; done; '
+                            'tar -C "$3" --mtime=@0 --owner=0 --group=0 --sort=name --remove-files -cf - package | '
+                            'gzip -n > "$3/pbaudit-$("$here/version" --state).tgz"',
 }  # fmt: skip
 MAN = 'import pathlib, sys\nfor name in ("pbaudit.1", "pbaudit.bash", "_pbaudit", "pbaudit.fish"):\n    pathlib.Path(sys.argv[2], name).touch()\n'
 
@@ -123,8 +125,8 @@ class Copy:
         needs("dpkg-deb", "xz")
         self.top, self.room, self.word = room / "copy", room, room / "word"
         left_out = shutil.ignore_patterns("__pycache__", "*.so*")
-        for name in ("packaging", "include", "python", "web/src", "CHANGELOG.md", "LICENSE", "HANDLES", "crates.txt",
-                     "examples/district.pb", "examples/district.prices.csv"):
+        for name in ("packaging", "include", "python", "web/src", "docs", "examples", "README.md", "CHANGELOG.md", "CONTRIBUTING.md",
+                     "SECURITY.md", "CITATION.cff", "LICENSE", "HANDLES", "crates.txt"):
             (self.top / name).parent.mkdir(parents=True, exist_ok=True)
             if (TOP / name).is_dir():
                 shutil.copytree(TOP / name, self.top / name, ignore=left_out)
@@ -183,7 +185,7 @@ def test_what_is_not_released(copy):
     copy.state("9.9.8", "Unreleased", "[9.9.8] - 2020-01-02")
     done, files = copy.release()
     assert done.returncode == 0, done.stderr
-    assert named_by_version(files) == {"9.9.8+unreleased"} and len([name for name in files if "9.9.8" in name]) == 5
+    assert named_by_version(files) == {"9.9.8+unreleased"} and len([name for name in files if "9.9.8" in name]) == 6
     assert copy.released()["MADE-OF"].startswith(b"pbaudit 9.9.8+unreleased ") and copy.kept() == {}
     assert sums_in((copy.room / "downloads/SHA256SUMS").read_text()) == {name: files[name] for name in files.keys() - {"SHA256SUMS"}}
     assert {*copy.released()} <= {*files}
@@ -212,13 +214,30 @@ def test_version_is_what_it_was_at_first(copy):
     assert done.returncode == 0 and named_by_version(files) == {"9.9.9+unreleased"} and copy.kept() == kept
 
 
-def test_documents_belong_to_the_bytes(copy):
+@pytest.mark.parametrize("name", ["CHANGELOG.md", "docs/FAQ.md", "examples/sheets.py"])
+def test_documents_belong_to_the_bytes(copy, name):
     """Where a document in the archive changed, it is another archive."""
     copy.state("9.9.9", "[9.9.9] - 2020-01-03")
     assert copy.release()[0].returncode == 0
-    with open(copy.top / "CHANGELOG.md", "a", encoding="utf-8") as changelog:
-        changelog.write("More.\n")
+    with open(copy.top / name, "a", encoding="utf-8") as document:
+        document.write("# More.\n")
     assert copy.release()[0].returncode == 1
+
+
+def test_packages_bring_the_documents(copy):
+    """The archive and the .deb have them as packaging/documents writes them."""
+    copy.state("9.9.9", "[9.9.9] - 2020-01-03")
+    assert copy.release()[0].returncode == 0
+    assert copy.call("documents", copy.room / "wanted").returncode == 0
+    archive, deb = (next((copy.room / "downloads").glob(pattern)) for pattern in ("*.tar.gz", "*.deb"))
+    (copy.room / "archive").mkdir()
+    ran("tar", "-xzf", archive, "-C", copy.room / "archive", "--strip-components=1")
+    ran("dpkg-deb", "-x", deb, copy.room / "deb")
+    names = sorted(path.relative_to(copy.room / "wanted") for path in (copy.room / "wanted").rglob("*.*"))
+    assert {"docs/README.md", "docs/FAQ.md", "examples/sheets.py"} <= {*map(str, names)}
+    for name in names:
+        wanted = (copy.room / "wanted" / name).read_bytes()
+        assert (copy.room / "archive" / name).read_bytes() == (copy.room / "deb/usr/share/doc/pbaudit" / name).read_bytes() == wanted
 
 
 @pytest.mark.parametrize("headings, told", [

@@ -16,36 +16,31 @@ declare module "node:assert/strict" {
 }
 
 declare module "node:fs" {
-  interface Stats {
-    readonly size: number;
-    isFile(): boolean;
-  }
-  interface Entry {
-    readonly name: Uint8Array;
-    isFile(): boolean;
-  }
   export function openSync(path: string, how: string): number;
   export function closeSync(file: number): void;
-  export function fstatSync(file: number): Stats;
-  export function statSync(path: string): Stats;
+  export function statSync(path: string): { readonly mode: number };
+  export function lstatSync(path: string): { readonly mode: number };
   export function readSync(file: number, room: Uint8Array, at: number, length: number, from: null): number;
-  export function writeSync(file: number, bytes: Uint8Array, at: number): number;
-  export function readFileSync(path: string): Uint8Array;
-  export function readdirSync(path: string, how: { withFileTypes: true; encoding: "buffer" }): Entry[];
+  export function writeSync(file: number, bytes: Uint8Array | string): number;
+  export function readFileSync(path: string | URL): Uint8Array;
+  export function readdirSync(path: string, how: { encoding: "buffer" }): Uint8Array[];
 }
 
 declare module "node:process" {
   const process: {
     readonly argv: readonly string[];
     readonly platform: string;
-    readonly stderr: { readonly isTTY?: boolean };
     exitCode: number;
   };
   export default process;
 }
 
-declare module "node:util" {
-  export function getSystemErrorMap(): ReadonlyMap<number, readonly [string, string]>;
+declare module "node:tty" {
+  export function isatty(file: number): boolean;
+}
+
+declare module "node:v8" {
+  export function setFlagsFromString(flags: string): void;
 }
 
 declare module "node:crypto" {
@@ -56,7 +51,23 @@ declare module "node:crypto" {
   export function createHash(name: "sha256"): Hash;
 }
 
+declare module "node:worker_threads" {
+  export class Worker {
+    constructor(script: string, how: { eval: true; execArgv: readonly string[] });
+    on(event: "message" | "error" | "exit", does: (told: any) => void): void;
+    postMessage(message: unknown, transfer: readonly ArrayBuffer[]): void;
+    ref(): void;
+    unref(): void;
+    terminate(): Promise<number>;
+  }
+}
+
 declare module "*.txt" {
   const text: string;
   export default text;
+}
+
+declare module "*.json" {
+  const value: any;
+  export default value;
 }

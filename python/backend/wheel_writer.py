@@ -1,13 +1,16 @@
 """Writes the wheel of pbaudit by the standard library alone, so that `pip install` needs no other package.
 
-The wheel holds the proved library and, as its command `pbaudit`, the proved program. Each is the one that was built here, in
-`lib` and in `crates/pbaudit/out`, where no source is newer; else that of the folder `release`, where it was made of these
-sources. Where neither is so and `rt` is on the PATH, it is built, and where that fails there is no wheel. Without `rt` the
-one that was built is taken, however old it is; and where there is none nothing is installed. The same files give the same
-bytes.
+The wheel holds the proved library, the proved program, and the command `pbaudit`, which is entry.py. Library and program are
+those that were built here, in `lib` and in `crates/pbaudit/out`, where no source is newer; else those of the folder `release`,
+where they were made of these sources. Where neither is so and `rt` is on the PATH, they are built, and where that fails there
+is no wheel. Without `rt` those that were built are taken, however old they are; and where there are none nothing is installed.
+The same files give the same bytes.
+
+The wheel for any platform has neither. It holds the command of the package for JavaScript, the program as a module that Node runs.
 """
 import base64
 import hashlib
+import io
 import pathlib
 import platform
 import re
@@ -15,6 +18,7 @@ import shutil
 import struct
 import subprocess
 import sys
+import tarfile
 import zipfile
 from typing import List, NamedTuple, Tuple
 
@@ -23,6 +27,10 @@ REPOSITORY = PYTHON.parent
 # What both are built of, as ./install has it.
 SOURCES = ("crates.txt", "HANDLES", "crates/*/src", "crates/*/specs", "crates/*/proofs")
 PROJECT = (PYTHON / "pyproject.toml").read_text(encoding="utf-8")
+# What the command of the package is made of, and where the wheel has the program, to which that hands over.
+ENTRY, PROGRAM_IN_WHEEL = PYTHON / "backend" / "entry.py", "pbaudit/bin/pbaudit"
+# The command of the wheel for any platform: what entry.py does without a program.
+ENTRY_POINT, ANY = b"[console_scripts]\npbaudit = pbaudit.__main__:main\n", ["py3-none-any"]
 # What stands in a zip file has a date, which is the same for every build.
 DATE = (1980, 1, 1, 0, 0, 0)
 
@@ -36,6 +44,8 @@ class Part(NamedTuple):
     sources: Tuple[str, ...]
 
 
+# What of the package for JavaScript its command needs.
+MODULE = ("command.js", "pbaudit.wasm", "package.json")
 LIBRARY = Part("libpbaudit.so.1", "lib/libpbaudit.so.1", ["pbaudit-library"], ("include", "pbaudit-library"))
 PROGRAM = Part("pbaudit", "crates/pbaudit/out/pbaudit", ["pbaudit", "--build"], ())
 
@@ -151,25 +161,33 @@ def metadata():
     return "".join(f"{name}: {value}\n" for name, value in said) + "\n" + readme
 
 
-def files_of(library, program, tags):
-    """The files of the wheel with what is in them. Without a program the command is a script, which asks the library."""
-    head = f"{field('name')}-{version()}"
-    folder = f"{head}.dist-info"
+def files_of(library, program, tags, module=None):
+    """The files of the wheel with what is in them. Without a program the command asks the library, or where there is a module in
+    its place has Node run that."""
     files = {str(path.relative_to(PYTHON)): path.read_bytes() for path in sorted((PYTHON / "pbaudit").rglob("*.py"))}
     files["pbaudit/_version.py"] = f'"""The version of this package."""\nVERSION = "{version()}"\n'.encode()
     files["pbaudit/py.typed"] = b""
-    files[f"pbaudit/{LIBRARY.name}"] = library
-    if program is None:
-        files[f"{folder}/entry_points.txt"] = b"[console_scripts]\npbaudit = pbaudit.__main__:main\n"
-    else:
-        files[f"{head}.data/scripts/pbaudit"] = program
-    files[f"{folder}/LICENSE"] = (REPOSITORY / "LICENSE").read_bytes()
-    files[f"{folder}/METADATA"] = metadata().encode()
-    lines = ["Wheel-Version: 1.0", "Generator: pbaudit", "Root-Is-Purelib: false", *(f"Tag: {tag}" for tag in tags)]
-    files[f"{folder}/WHEEL"] = "".join(f"{line}\n" for line in lines).encode()
+    files.update({f"pbaudit/{LIBRARY.name}": library} if module is None else module)
+    if program is not None:
+        files[PROGRAM_IN_WHEEL] = program
+    return with_metadata(files, tags, is_pure=module is not None)
+
+
+def with_metadata(files, tags, is_pure=False):
+    """The files with the command and with what the wheel says of itself. In a wheel for any platform the command is an entry
+    point, of which pip makes a program on Windows, where a script can't be run by its name."""
+    head = f"{field('name')}-{version()}"
+    folder = f"{head}.dist-info"
+    command = {f"{folder}/entry_points.txt": ENTRY_POINT} if is_pure else {f"{head}.data/scripts/pbaudit": ENTRY.read_bytes()}
+    said = ["Wheel-Version: 1.0", "Generator: pbaudit", f"Root-Is-Purelib: {str(is_pure).lower()}"]
+    lines = [*said, *(f"Tag: {tag}" for tag in tags)]
+    files = {
+        **files, **command,
+        f"{folder}/LICENSE": (REPOSITORY / "LICENSE").read_bytes(), f"{folder}/METADATA": metadata().encode(),
+        f"{folder}/WHEEL": "".join(f"{line}\n" for line in lines).encode(),
+    }
     record = "".join(f"{path},{hash_of(data)},{len(data)}\n" for path, data in files.items())
-    files[f"{folder}/RECORD"] = f"{record}{folder}/RECORD,,\n".encode()
-    return files
+    return {**files, f"{folder}/RECORD": f"{record}{folder}/RECORD,,\n".encode()}
 
 
 def build_wheel(wheel_directory, config_settings=None, metadata_directory=None):
@@ -177,19 +195,46 @@ def build_wheel(wheel_directory, config_settings=None, metadata_directory=None):
     version()
     if not is_for_this_machine():
         raise NoWheel("pbaudit: this folder has neither library nor program for this machine, but for x86-64 Linux with "
-                      "glibc; on ARM install the wheel for it in release/")
+                      "glibc; on ARM Linux install the wheel for it in release/, and elsewhere the one for any platform "
+                      "(py3-none-any), which needs Node")
     return write_wheel(wheel_directory, found(LIBRARY), found(PROGRAM))
+
+
+def build_editable(wheel_directory, config_settings=None, metadata_directory=None):
+    """Writes a wheel by which Python takes the package from this folder, and answers its name, as PEP 660 asks. Library and
+    program are then those of the repository, as for any caller there."""
+    version()
+    files = {f"__editable__.{field('name')}.pth": f"{PYTHON}\n".encode()}
+    return zipped(wheel_directory, with_metadata(files, ANY), platforms_of(ANY))
 
 
 def write_wheel(folder, library, program=None, machine="x86_64"):
     """Writes the wheel for a machine, with a library and perhaps a program, into a folder, and answers its name."""
     tags = tags_of([library] if program is None else [library, program], machine)
-    platforms = ".".join(tag.rpartition("-")[2] for tag in tags)
+    return zipped(folder, files_of(library, program, tags), platforms_of(tags))
+
+
+def write_module_wheel(folder, package):
+    """Writes the wheel for any platform, with what the command of the package for JavaScript needs, into a folder, and answers
+    its name."""
+    with tarfile.open(fileobj=io.BytesIO(package)) as tar:
+        module = {f"pbaudit/node/{name}": tar.extractfile(f"package/{name}").read() for name in MODULE}
+    return zipped(folder, files_of(None, None, ANY, module), platforms_of(ANY))
+
+
+def platforms_of(tags):
+    """What the name of a wheel has of its tags."""
+    return ".".join(tag.rpartition("-")[2] for tag in tags)
+
+
+def zipped(folder, files, platforms):
+    """Writes a wheel of these files, and answers its name."""
     name = f"{field('name')}-{version()}-py3-none-{platforms}.whl"
     with zipfile.ZipFile(pathlib.Path(folder) / name, "w", zipfile.ZIP_DEFLATED) as wheel:
-        for path, content in files_of(library, program, tags).items():
+        for path, content in files.items():
             entry = zipfile.ZipInfo(path, DATE)
-            entry.external_attr = (0o100755 if content is program else 0o100644) << 16
+            is_command = path == PROGRAM_IN_WHEEL or path.endswith(".data/scripts/pbaudit")
+            entry.external_attr = (0o100755 if is_command else 0o100644) << 16
             wheel.writestr(entry, content, zipfile.ZIP_DEFLATED, 9)
     return name
 

@@ -2,13 +2,15 @@
 
     from pbaudit import audit_prices, price_certificate, validate_price_system
 
-Audits of files are `read`, `audit_prices`, `audit_violation`, `audit_refutation`, `audit_both`, `explain`, `margins`,
-`tidy` and `audit_folder`; of Python values `validate_price_system`. `write_page` shows what was found on a page for
-people, and `write_folder_pages` writes the pages of a folder with an index. `write_election`, `write_outcome`,
+Audits of files are `read`, `audit_groups`, `audit_prices`, `audit_violation`, `audit_refutation`, `audit_both`,
+`explain`, `explain_groups`, `margins`, `group_margins`, `tidy` and `audit_folder`; of Python values
+`validate_price_system` and `groups_that_fall_short`. `write_page` and `write_groups_page` show what was found on a page
+for people, and `write_folder_pages` writes the pages of a folder with an index. `write_election`, `write_outcome`,
 `write_prices`, `write_violation` and `write_refutation` write the files, `price_certificate` makes exact prices of a
-solver's floats, `equal_shares` has those of a rule, and `find` and `find_folder` look for prices, refutations and
-violations of any outcome. The answers are those of the program `pbaudit`: they come from the proved library, or from
-the program where the library isn't there. What this package does before and after isn't proved.
+solver's floats, `equal_shares` has those of a rule, `find` and `find_folder` look for prices, refutations and
+violations of any outcome, `smallest_relaxation` says how far an outcome is from prices, and `largest_voter_budget` makes
+prices with the largest voter budget. The answers are those of the program `pbaudit`: they come from the proved library, or
+from the program where the library isn't there. What this package does before and after isn't proved.
 
 Voters are numbered from 1, in the order of the profile. Amounts are in the currency of the costs. Files are given by
 their paths (`str` or `os.PathLike`), as bytes, or as binary files that are open. Where Python values are taken, what no
@@ -29,11 +31,17 @@ if TYPE_CHECKING:
     )
     from .certificates import PriceCertificate, price_certificate
     from .elections import Instance, Project
-    from .finding import find, find_folder
-    from .finding.results import Found, FoundFolder, FoundPrices, FoundRefutation, FoundRow, FoundViolation
+    from .finding import find, find_folder, largest_voter_budget, smallest_relaxation
+    from .finding.results import (
+        Found, FoundFolder, FoundPrices, FoundRefutation, FoundRow, FoundViolation, Relaxation, Stopped,
+    )
     from .folder_pages import NotReplaced, write_folder_pages
     from .folders import FileResult, FolderReport, audit_folder
-    from .pages import page, write_page
+    from .groups import (
+        GroupFigures, GroupMargins, GroupsExplanation, GroupsVerdict, ShortGroup, audit_groups, explain_groups, group_margins,
+        groups_that_fall_short,
+    )
+    from .pages import groups_page, page, write_groups_page, write_page
     from .price_systems import validate_price_system
     from .rounding import CannotKeep
     from .shares import EqualShares, equal_shares
@@ -43,11 +51,14 @@ if TYPE_CHECKING:
 __version__ = VERSION
 __all__ = [
     "CannotKeep", "EqualShares", "Explanation", "FileResult", "Finding", "FolderReport", "Found", "FoundFolder",
-    "FoundPrices", "FoundRefutation", "FoundRow", "FoundViolation", "Instance", "NotReplaced", "PriceCertificate",
-    "PriceSystem", "Project", "ProjectMargins", "Refusal", "Summary", "TooManyDenominators", "Verdict", "audit_both",
-    "audit_folder", "audit_prices", "audit_refutation", "audit_violation", "equal_shares", "explain", "find",
-    "find_folder", "margins", "page", "price_certificate", "read", "tidy", "validate_price_system", "write_election",
-    "write_folder_pages", "write_outcome", "write_page", "write_prices", "write_refutation", "write_violation",
+    "FoundPrices", "FoundRefutation", "FoundRow", "FoundViolation", "GroupFigures", "GroupMargins",
+    "GroupsExplanation", "GroupsVerdict", "Instance", "NotReplaced", "PriceCertificate", "PriceSystem", "Project",
+    "ProjectMargins", "Refusal", "Relaxation", "ShortGroup", "Stopped", "Summary", "TooManyDenominators", "Verdict",
+    "audit_both", "audit_folder", "audit_groups", "audit_prices", "audit_refutation", "audit_violation",
+    "equal_shares", "explain", "explain_groups", "find", "find_folder", "group_margins", "groups_page",
+    "groups_that_fall_short", "largest_voter_budget", "margins", "page", "price_certificate", "read",
+    "smallest_relaxation", "tidy", "validate_price_system", "write_election", "write_folder_pages",
+    "write_groups_page", "write_outcome", "write_page", "write_prices", "write_refutation", "write_violation",
 ]
 # The parts are loaded when they are first used, since an import of all takes long beside an audit.
 _PARTS = {
@@ -56,11 +67,14 @@ _PARTS = {
                  "audit_prices", "audit_refutation", "audit_violation", "explain", "margins", "read", "tidy"),
     "certificates": ("PriceCertificate", "price_certificate"),
     "elections": ("Instance", "Project"),
-    "finding": ("find", "find_folder"),
-    "finding.results": ("Found", "FoundFolder", "FoundPrices", "FoundRefutation", "FoundRow", "FoundViolation"),
+    "finding": ("find", "find_folder", "largest_voter_budget", "smallest_relaxation"),
+    "finding.results": ("Found", "FoundFolder", "FoundPrices", "FoundRefutation", "FoundRow", "FoundViolation",
+                        "Relaxation", "Stopped"),
     "folder_pages": ("NotReplaced", "write_folder_pages"),
     "folders": ("FileResult", "FolderReport", "audit_folder"),
-    "pages": ("page", "write_page"),
+    "groups": ("GroupFigures", "GroupMargins", "GroupsExplanation", "GroupsVerdict", "ShortGroup", "audit_groups",
+               "explain_groups", "group_margins", "groups_that_fall_short"),
+    "pages": ("groups_page", "page", "write_groups_page", "write_page"),
     "price_systems": ("validate_price_system",),
     "rounding": ("CannotKeep",),
     "shares": ("EqualShares", "equal_shares"),

@@ -6,28 +6,38 @@ import errno
 import io
 import os
 import re
+import signal
+import subprocess
 import sys
 from fractions import Fraction
-from typing import IO, List, NoReturn, Optional, Sequence
+from typing import IO, Any, List, NoReturn, Optional, Sequence
 
+from ._places import program
 from ._version import VERSION
-from .audit_commands import COMMANDS, add_to as add_audits, answer as audited, mode_of, run_program
+from .audit_commands import (
+    COMMANDS, add_groups, add_to as add_audits, answer as audited, audited_folder, is_on_groups, refusal as refusal_for,
+    run_program,
+)
 from .auditing import Refusal
 from .finding.command import Answer, add_to as add_find, answer, folder_answer
-from .pages import LANGUAGES, replaced, write_page
+from .folders import left_out
+from .objects import refusal_of, unread_of
+from .pages import LANGUAGES, replaced, write_groups_page, write_page
 from .readers_page import NoPage, add_to as add_readers_page, replaces, write_readers_page
 from .rounding import CannotKeep
-from .shares import COMPLETIONS, MEASURES, checked_increment
+from .shares import COMPLETIONS, MEASURES
 from .shown import shown, visible
 
 DIFFERS, REFUSED, USAGE, FAULT = 1, 2, 3, 4
 PAGE_USAGE = (
-    "python -m pbaudit page ELECTION CERTIFICATE [OPTIONS] -o PAGE\n"
-    "       python -m pbaudit page --folder FOLDER [OPTIONS] -o OUT"
+    "%(prog)s ELECTION CERTIFICATE [OPTIONS] -o PAGE\n"
+    "       %(prog)s ELECTION --groups [OPTIONS] -o PAGE\n"
+    "       %(prog)s --folder FOLDER [OPTIONS] -o OUT"
 )
 WHAT_IT_DOES = (
-    "Writes a page that says in plain words what the audit of a price or a violation certificate finds: one HTML file, "
-    "which has no script and loads nothing. With --folder it writes a page for each certificate of a folder, and an index."
+    "Writes a page that says in plain words what the audit of a certificate finds, or with --groups whether a group of voters "
+    "falls short: one HTML file, which has no script and loads nothing. With --folder it writes a page for each certificate "
+    "of a folder, and an index."
 )
 HOW_IT_ENDS = (
     "Exit statuses: 0 if the page was written, whatever the answer on it; 2 if a file is refused, with the line of the "
@@ -38,6 +48,15 @@ HOW_IT_ENDS = (
     "isn't a page of pbaudit, and then nothing is written."
 )
 
+OWN_COMMANDS = """
+Commands of the Python package:
+  find          Look for prices, refutations and violations of an outcome
+  equal-shares  Certify an outcome of the Method of Equal Shares
+  readers-page  Put files into a page for browsers that audits them
+
+With -o FILE, 'page' writes a file; with --folder FOLDER -o OUT it writes the
+pages of a folder. With --workers N, 'folder' audits by N processes.
+"""
 WHAT_SHARES_DO = (
     "Computes an outcome of the Method of Equal Shares exactly, with ties going to the project that comes first; makes "
     "a price certificate from what the voters pay; has it audited; and says what holds. The computation isn't proved, "
@@ -57,15 +76,24 @@ class _Parser(argparse.ArgumentParser):
         self.print_usage(sys.stderr)
         self.exit(USAGE, f"{self.prog}: {visible(message)}\n")
 
+    def _print_message(self, message: str, file: Any = None) -> None:
+        text = message.rstrip("\n")
+        if file is not sys.stdout:
+            _tell(text)
+        elif _told([text], 0):
+            self.exit(FAULT)
 
-def _parser(by_folder: bool) -> _Parser:
-    parser = _Parser(prog="python -m pbaudit", description="Shows what pbaudit finds, and certifies outcomes.",
+
+def _parser(by_folder: bool, on_groups: bool = False) -> _Parser:
+    is_command = os.path.basename(sys.argv[0]) == "pbaudit"
+    parser = _Parser(prog="pbaudit" if is_command else "python -m pbaudit",
+                     description="Shows what pbaudit finds, and certifies outcomes.",
                      allow_abbrev=False)
     parser.add_argument("--version", action="version", version=f"pbaudit {VERSION}")
     parser.set_defaults(run=_audit)
     commands = parser.add_subparsers(dest="command", required=True)
-    _add_page(commands, by_folder)
-    add_audits(commands)
+    _add_page(commands, by_folder, on_groups)
+    add_audits(commands, on_groups)
     _add_equal_shares(commands)
     readers = add_readers_page(commands)
     readers.set_defaults(run=_readers_page, end_by_usage=readers.error)
@@ -74,14 +102,17 @@ def _parser(by_folder: bool) -> _Parser:
     return parser
 
 
-def _add_page(commands: "argparse._SubParsersAction[_Parser]", by_folder: bool) -> None:
-    page = commands.add_parser("page", help="writes a page about a certificate, as one HTML file", usage=PAGE_USAGE,
+def _add_page(commands: "argparse._SubParsersAction[_Parser]", by_folder: bool, on_groups: bool) -> None:
+    page = commands.add_parser("page", help="writes a page about a certificate or about groups, as one HTML file", usage=PAGE_USAGE,
                                description=WHAT_IT_DOES, epilog=HOW_IT_ENDS, allow_abbrev=False)
     # Were these optional, argparse would take no option between them.
     if not by_folder:
         page.add_argument("election", metavar="ELECTION", help="an election file")
-        page.add_argument("certificate", metavar="CERTIFICATE", help="a price or a violation certificate")
-    page.add_argument("--folder", metavar="FOLDER", help="in place of ELECTION and CERTIFICATE: write the pages on all "
+        count: Any = "?" if on_groups else None
+        page.add_argument("certificate", metavar="CERTIFICATE", nargs=count,
+                          help="a price certificate, a violation certificate or a refutation")
+        add_groups(page)
+    page.add_argument("--folder", metavar="FOLDER", help="instead of ELECTION and CERTIFICATE: write the pages on all "
                       "certificates of a folder, and an index of them, index.html, to the folder that -o names")
     page.add_argument("--stable", action="store_true", help="ask for the stable form of prices")
     page.add_argument("--no-exhaustive", action="store_true", help="leave out the condition Exhaustive")
@@ -97,39 +128,71 @@ def _add_equal_shares(commands: "argparse._SubParsersAction[_Parser]") -> None:
                                  description=WHAT_SHARES_DO, epilog=HOW_SHARES_END, allow_abbrev=False)
     shares.add_argument("election", metavar="ELECTION", help="an election file")
     shares.add_argument("-o", "--output", metavar="CERTIFICATE", help="the price certificate to write; the outcome "
-                        "file beside it ends with .outcome.csv in the place of .prices.csv")
+                        "file beside it ends with .outcome.csv instead of .prices.csv")
     shares.add_argument("--by", choices=MEASURES, default="cost", help="what a project is worth to each supporter: its "
                         "cost, which is the default, or 1")
     shares.add_argument("--completion", choices=COMPLETIONS, default="none", help="add1 raises the budget of each "
                         "voter by 1 until no other project fits, or the next outcome costs more than the limit")
     shares.add_argument("--increment", type=_increment, default=Fraction(1), metavar="AMOUNT", help="what add1 raises "
-                        "the budget by in the place of 1, such as 1000 where costs are in millions, or 0.01")
+                        "the budget by instead of 1, such as 1000 where costs are in millions, or 0.01")
     shares.set_defaults(run=_equal_shares, end_by_usage=shares.error)
 
 
 def _increment(word: str) -> Fraction:
-    """An amount as the words of a command state it: digits, which may have a point. Raises ValueError."""
-    if not re.fullmatch(r"[0-9]{1,12}(\.[0-9]{1,6})?", word):
-        raise ValueError(word)
-    return checked_increment(Fraction(word))
+    """An amount as the words of a command state it: digits, which may have a point. Raises ArgumentTypeError."""
+    if not (re.fullmatch(r"[0-9]{1,12}(\.[0-9]{1,6})?", word) and Fraction(word)):
+        raise argparse.ArgumentTypeError(f"{word!r} isn't an amount above 0, such as 1000 or 0.01, with at most six decimals")
+    return Fraction(word)
 
 
 def main(words: Optional[Sequence[str]] = None) -> int:
     """Runs a command line, and answers its exit status."""
     words = sys.argv[1:] if words is None else words
+    if sys.stderr is None:
+        # Whoever closed it wants to be told nothing.
+        sys.stderr = open(os.devnull, "w", encoding="utf-8")
     if isinstance(sys.stdout, io.TextIOWrapper):
         # As the program writes, whatever the terminal is said to read; a path may have bytes that are no letters.
         sys.stdout.reconfigure(encoding="utf-8", errors="surrogateescape")
     try:
-        if words and words[0] in COMMANDS:
+        if words and words[0] == "help":
+            words = [*words[1:], "--help"]
+        if words and words[0] in COMMANDS and not _has_option(words, "--workers"):
             run_program(list(words))
-        given = _parser(by_folder=any(word.partition("=")[0] == "--folder" for word in words)).parse_args(words)
+        if list(words) in (["-h"], ["--help"]) and _told_by_program():
+            return 0
+        given = _parser(_has_option(words, "--folder"), _has_option(words, "--groups")).parse_args(words)
         status: int = given.run(given)
     except MemoryError:
         return _fault("fault memory")
     except (ImportError, RuntimeError) as why:
         return _fault(f"fault: {why}")
+    except KeyboardInterrupt:
+        return _stopped()
+    except Exception as why:  # Whatever it is, no status may tell that something was answered.
+        return _fault(f"fault: {why!r}")
     return status
+
+
+def _stopped() -> int:
+    """Ends by the signal, as a shell expects of what the keyboard stops."""
+    signal.signal(signal.SIGINT, signal.SIG_DFL)
+    signal.raise_signal(signal.SIGINT)
+    return FAULT
+
+
+def _has_option(words: Sequence[str], option: str) -> bool:
+    return any(word.partition("=")[0] == option for word in words)
+
+
+def _told_by_program() -> bool:
+    """Prints the help of the program, and the commands of the package behind it. Whether there is a program."""
+    found = program()
+    if found is None:
+        return False
+    told = subprocess.run([str(found), "--help"], stdin=subprocess.DEVNULL, capture_output=True, check=False)
+    _told_bytes(told.stdout + OWN_COMMANDS.encode("utf-8"), told.returncode)
+    return True
 
 
 def _audit(given: argparse.Namespace) -> int:
@@ -138,22 +201,23 @@ def _audit(given: argparse.Namespace) -> int:
     try:
         status, text, notes = audited(given)
     except Refusal as refusal:
-        return _refused(refusal.printed, "\n".join(refusal.sentences()))
-    except OSError as unread:
-        return _refused(f"refused {_role(given, unread)} 18 Read record 0", _reason(unread))
+        found = refusal_of(refusal.input, refusal.number, refusal.name, refusal.record)
+        return _refused(refusal_for(given, found), "\n".join(refusal.sentences()))
+    except OSError as why:
+        return _refused(refusal_for(given, unread_of(_role(given, why))), _reason(why))
     for note in notes:
         _tell(note)
     return _told_bytes(text, status)
 
 
 def _folder(given: argparse.Namespace) -> int:
-    from .folders import audit_folder
     try:
         os.listdir(given.folder)
-        report = audit_folder(given.folder, **vars(mode_of(given)))
+        lines, status = audited_folder(given)
+        notes = left_out(given.folder, "audited")
     except OSError as unlisted:
-        return _refused("refused folder 18 Read record 0", _reason(unlisted))
-    return _told([report.text.rstrip("\n")], report.status)
+        return _refused(refusal_for(given, unread_of("folder")), _reason(unlisted))
+    return _found(Answer(lines, status, notes=notes))
 
 
 def _page(given: argparse.Namespace) -> int:
@@ -162,8 +226,7 @@ def _page(given: argparse.Namespace) -> int:
     if over:
         given.end_by_usage(f"-o names the same file as {over}, which the page would replace")
     try:
-        page = write_page(given.election, given.certificate, outcome=given.outcome, stable=given.stable,
-                          exhaustive=not given.no_exhaustive, cover=given.cover, language=given.language)
+        page = _page_asked(given)
     except Refusal as refusal:
         return _refused(refusal.printed, "\n".join(refusal.sentences()))
     except OSError as unread:
@@ -174,6 +237,14 @@ def _page(given: argparse.Namespace) -> int:
     except OSError as unwritten:
         return _fault(f"fault write: {_reason(unwritten)}")
     return 0
+
+
+def _page_asked(given: argparse.Namespace) -> bytes:
+    if is_on_groups(given):
+        return write_groups_page(given.election, given.outcome, satisfaction=given.satisfaction or "cost",
+                                 language=given.language)
+    return write_page(given.election, given.certificate, outcome=given.outcome, stable=given.stable,
+                      exhaustive=not given.no_exhaustive, cover=given.cover, language=given.language)
 
 
 def _readers_page(given: argparse.Namespace) -> int:
@@ -193,7 +264,7 @@ def _folder_pages(given: argparse.Namespace) -> int:
     if given.outcome is not None:
         given.end_by_usage("--folder takes no --outcome: each election of the folder states its own")
     try:
-        os.listdir(given.folder)
+        notes = left_out(given.folder, "audited")
     except OSError as unlisted:
         return _refused("refused folder 18 Read record 0", _reason(unlisted))
     try:
@@ -205,7 +276,7 @@ def _folder_pages(given: argparse.Namespace) -> int:
         if why.errno == errno.EILSEQ:
             return _refused("refused folder 18 Read record 0", _reason(why))
         return _fault(f"fault write: {_reason(why)}")
-    return _told([report.text.rstrip("\n")], report.status)
+    return _found(Answer([report.text.rstrip("\n")], report.status, notes=notes))
 
 
 def _equal_shares(given: argparse.Namespace) -> int:
@@ -230,7 +301,7 @@ def _equal_shares(given: argparse.Namespace) -> int:
     lines = [*made.lines(), *(f"written: {shown(path)}" for path in paths)]
     check = made.checked_by(given.election, *paths) if paths else None
     if check is not None:
-        lines.append(f"check it by: {check}")
+        lines.append(f"check it with: {check}")
     return _told(lines, DIFFERS if made.is_own is False else 0)
 
 
@@ -257,11 +328,15 @@ def _find_in_folder(given: argparse.Namespace) -> int:
 def _found(found: Answer) -> int:
     """Tells what was found, and then what went wrong."""
     status = _told(found.lines, found.status) if found.lines else found.status
+    for note in found.notes:
+        _tell(note)
     return status if found.fault is None else _fault(found.fault)
 
 
 def _told(lines: List[str], status: int) -> int:
     """Prints lines, and ends with a status, or as by a fault where they can't be written."""
+    if sys.stdout is None:
+        return _fault("fault write: standard output is closed")
     try:
         print(*lines, sep="\n", flush=True)
     except OSError as unwritten:

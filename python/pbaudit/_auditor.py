@@ -1,18 +1,21 @@
-"""The auditor itself: the proved library where it is found, and else the program `pbaudit`.
+"""The auditor itself: the proved library where it is found, and otherwise the program `pbaudit`, or the proved module, which Node
+runs as the same command.
 
-Both answer the same: an exit status of 0, 1 or 2, and the text that the program prints.
+All answer the same: an exit status of 0, 1 or 2, and an object (docs/JSON.md). What is printed for people is handed on as it is,
+and nothing is read from it.
 """
 import ctypes
+import json
 import os
 import pathlib
-import re
 import subprocess
 import tempfile
 from dataclasses import dataclass, replace
-from typing import Any, List, Literal, Optional, Protocol, Tuple, Union
+from typing import Any, Callable, Dict, List, Literal, Optional, Protocol, Tuple, Union
 
 from . import _places
-from .election_files import ids_of
+from .objects import Found, object_of
+from .records import line_of_record
 
 _HOW_TO_BUILD = (
     "neither libpbaudit.so.1 nor the program pbaudit was found; from the repository of pbaudit, install this package again "
@@ -28,9 +31,20 @@ def switch(name: str, value: object) -> bool:
     return bool(value)
 
 
+Satisfaction = Literal["count", "cost"]
+
+
+def measured(satisfaction: object) -> Satisfaction:
+    """A satisfaction, which is "count" or "cost", and anything else a ValueError."""
+    if isinstance(satisfaction, str) and satisfaction in ("count", "cost"):
+        return "cost" if satisfaction == "cost" else "count"
+    raise ValueError(f"the satisfaction is {satisfaction!r}, not 'count' or 'cost'")
+
+
 @dataclass(frozen=True)
 class Mode:
-    """Which conditions are asked of prices. Each switch is True or False, and anything else a TypeError."""
+    """Which conditions are asked of prices; of a refutation `stable` alone counts. Each switch is True or False, and
+    anything else a TypeError."""
 
     stable: bool = False
     exhaustive: bool = True
@@ -59,8 +73,8 @@ class PageWords:
 
 @dataclass(frozen=True)
 class Question:
-    """A command, its files as bytes, the mode where the command asks for conditions, and the words of a page. Two
-    certificates are the prices and then the violation."""
+    """A command, its files as bytes, the mode where the command asks for conditions, the words of a page, and how groups
+    are measured. Two certificates are the prices and then the violation."""
 
     command: str
     election: bytes
@@ -69,122 +83,60 @@ class Question:
     outcome: Optional[bytes] = None
     mode: Mode = Mode()
     page: PageWords = PageWords()
-
-
-@dataclass(frozen=True)
-class Culprit:
-    """A condition or a test that fails, by its name, as "C3", "V4" or "U2"; and the voter and the project at which it
-    does, numbered from 1, each None where it names none."""
-
-    name: str
-    voter: Optional[int] = None
-    project: Optional[int] = None
-
-    def project_in(self, line: str) -> Optional[str]:
-        """The project's id, which stands at the end of the line on this. Raises RuntimeError for another line."""
-        front = f"failed {self.name}" + ("" if self.voter is None else f" voter {self.voter}")
-        if self.project is None and line == front:
-            return None
-        front += " project "
-        if self.project is None or not line.startswith(front):
-            raise RuntimeError(f"pbaudit answers {line!r}")
-        return line[len(front):]
-
-
-@dataclass(frozen=True)
-class Facts:
-    """How an answer ends. Of a refusal: what is refused, "election", "outcome", "certificate", "prices" or "violation",
-    and else None; the number of the fault; and the record, numbered from 1, or 0. Of a no: the first condition on
-    prices that fails, and the first test of a violation or of a refutation, of "both" each of the two."""
-
-    input: Optional[str] = None
-    number: int = 0
-    record: int = 0
-    condition: Optional[Culprit] = None
-    test: Optional[Culprit] = None
-
-
-@dataclass(frozen=True)
-class Answer:
-    """The exit status of a command, the text that it prints, and how that ends."""
-
-    status: int
-    text: bytes
-    facts: Facts = Facts()
+    satisfaction: Satisfaction = "cost"
 
 
 @dataclass(frozen=True)
 class Hint:
-    """What a person is told of a refusal: the line of the file on which the record begins, from 1, or None; and
-    sentences, each on a line, of which one that is about another line of the file begins with `line N: `."""
+    """What a person is told of a refusal: the line of the file on which the refused record begins, from 1, or None; and
+    sentences. Those of the program name the file, by its role, and the line themselves."""
 
     line: Optional[int]
-    sentences: str
+    sentences: Tuple[str, ...]
+    names_file: bool = False
 
 
-OnGroups = Literal["strict", "weak", "little"]
+@dataclass(frozen=True)
+class Report:
+    """What answers a question: the exit status; the object, which is empty where a table or a page is given; what is printed,
+    for people, which the program is asked for where it is wanted; the notes beside it; and what is told of a refusal."""
+
+    status: int
+    found: Found
+    printed: Callable[[], bytes]
+    notes: Tuple[str, ...] = ()
+    hint: Optional[Hint] = None
+
+    @property
+    def text(self) -> bytes:
+        return self.printed()
 
 
 class Auditor(Protocol):
     """What the library and the program have in common."""
 
-    def ask(self, question: Question) -> Answer:
-        """The answer to a question."""
+    def ask(self, question: Question) -> Report:
+        """What answers a question."""
 
     def has(self, command: str) -> bool:
         """Whether it has this command, which an older program may lack."""
 
-    def says_of_groups(self, question: Question) -> OnGroups:
-        """What a yes to prices says of groups, where the answer is a yes."""
 
-    def hint(self, question: Question, facts: Facts) -> Optional[Hint]:
-        """What is told of a refusal, or None where this auditor has no hints."""
-
-
-# What the library can be asked, by its numbers from 0, and what it can refuse, by its numbers from 1; and its
-# conditions and tests by their numbers.
-_QUESTIONS = ("read", "prices", "violation", "refutation", "both", "explain", "margins", "tidy")
-_REFUSED = ("election", "outcome", "certificate", "prices", "violation")
-_CULPRITS = {**dict(enumerate(("Feasible", "Exhaustive", "Cover", "C1", "C2", "C3", "C4", "C5", "S5"), 1)),
-             **dict(enumerate(("V1", "V2", "V3", "V4"), 11)), **dict(enumerate(("U1", "U2", "U3"), 21))}
+# What the library can be asked, by its numbers from 0, of which the tables are no objects.
+_QUESTIONS = ("read", "prices", "violation", "refutation", "both", "explain", "margins", "tidy", "groups_by_cost",
+              "groups_by_count", "explain_groups_by_cost", "explain_groups_by_count", "group_margins_by_cost",
+              "group_margins_by_count")
+_TABLES = ("margins", "tidy", "group_margins")
+# What is asked by one of two measures; and what the program answers with --groups, by the command that it belongs to.
+_BY_MEASURE = ("groups", "explain_groups", "group_margins")
+_WITH_GROUPS = {"explain_groups": "explain", "group_margins": "margins", "groups_page": "page"}
+_PAGES = ("page", "groups_page")
 _WITH_MODE = ("prices", "both", "explain", "page")
-_ANY_CERTIFICATE = 4
-_INPUTS = {"election": 0, "outcome": 1, "prices": 2, "violation": 3}
-# What kind the one certificate of a command is.
-_KINDS = {"prices": 2, "violation": 3, "refutation": 5, "margins": 2, "tidy": 2, "explain": _ANY_CERTIFICATE,
-          "page": _ANY_CERTIFICATE}
+# The questions that take the same files and are answered by an object, which says why one is refused.
+_OF_SAME_FILES = {"margins": "prices", "tidy": "prices", "group_margins": "groups", "page": "explain", "groups_page": "groups"}
+_NOTHING_FUNDED = b"pb-outcome,1\n"
 _OUT_OF_MEMORY = "pbaudit: fault memory"
-# What is said of groups, by its numbers, of which 0 tells that a file is refused.
-_ON_GROUPS: Tuple[Optional[OnGroups], ...] = (None, "little", "weak", "strict")
-_MEMORY = 4
-# The lines by which the program explains that.
-_ANY_VOTERS = b"take any voters who all approve an unfunded project: their equal part of the limit is "
-_GROUP_LINES: List[Tuple[bytes, OnGroups]] = [
-    (_ANY_VOTERS + b"less than ", "strict"), (_ANY_VOTERS + b"no more than ", "weak"),
-    (b"of groups of voters this says little: ", "little"),
-]
-
-
-class _CulpritOfC(ctypes.Structure):
-    """The header's `pbaudit_culprit`."""
-
-    _fields_ = [(name, ctypes.c_uint32) for name in ("number", "voter", "project")]
-
-    def value(self) -> Optional[Culprit]:
-        """The same in Python, or None where nothing fails."""
-        return Culprit(_CULPRITS[self.number], self.voter or None, self.project or None) if self.number else None
-
-
-class _FactsOfC(ctypes.Structure):
-    """The header's `pbaudit_facts`."""
-
-    _fields_ = [("input", ctypes.c_uint32), ("fault", ctypes.c_uint32), ("record", ctypes.c_uint64),
-                ("condition", _CulpritOfC), ("test", _CulpritOfC)]
-
-    def value(self) -> Facts:
-        """The same in Python."""
-        refused = _REFUSED[self.input - 1] if self.input else None
-        return Facts(refused, self.fault, self.record, self.condition.value(), self.test.value())
+_REFUSED, _USAGE, _MEMORY = 2, 3, 4
 
 
 class _Library:
@@ -194,20 +146,19 @@ class _Library:
     _FILE = [ctypes.c_char_p, _SIZE]
     _OUTCOME = _FILE + [ctypes.c_bool]
     _MODE = [ctypes.c_bool] * 3
-    _FACTS = ctypes.POINTER(_FactsOfC)
+    # As much room as `pbaudit_facts` takes, which a page fills, and which nothing is read from here.
+    FACTS = ctypes.c_uint64 * 5
+    _FACTS = ctypes.POINTER(FACTS)
     _OUT = [ctypes.c_char_p, _SIZE, ctypes.POINTER(_SIZE)]
-    _ANSWER: List[Any] = [ctypes.c_uint8, *_FILE, *_OUTCOME, *_FILE, *_FILE, *_MODE, _FACTS]
-    _PAGE: List[Any] = [*_FILE, *_FILE, *_FILE, *_OUTCOME, *_FILE, *_FILE, *_MODE, *_FILE, _FACTS]
-    _GROUPS: List[Any] = [*_FILE, *_FILE, ctypes.c_bool]
-    _HINT: List[Any] = [ctypes.c_uint8, ctypes.c_uint32, ctypes.c_uint64, *_FILE, *_OUTCOME,
-                        ctypes.POINTER(ctypes.c_uint64)]
+    _REPORT: List[Any] = [ctypes.c_uint8, *_FILE, *_OUTCOME, *_FILE, *_FILE, *_MODE, *_OUT]
+    _PAGE: List[Any] = [*_FILE, *_FILE, *_FILE, *_OUTCOME, *_FILE, *_FILE, *_MODE, *_FILE, _FACTS, *_OUT]
+    _GROUPS_PAGE: List[Any] = [*_FILE, *_FILE, *_FILE, *_OUTCOME, ctypes.c_bool, *_FILE, _FACTS, *_OUT]
 
     def __init__(self, path: Union[str, pathlib.Path]):
         library = ctypes.CDLL(str(path))
-        self._answer = self._function(library, "answer", self._ANSWER + self._OUT)
-        self._page = self._function(library, "answer_page", self._PAGE + self._OUT)
-        self._groups = self._function(library, "groups", self._GROUPS)
-        self._hint = self._function(library, "hint", self._HINT + self._OUT)
+        self._report = self._function(library, "report", self._REPORT)
+        self._page = self._function(library, "answer_page", self._PAGE)
+        self._groups_page = self._function(library, "groups_page", self._GROUPS_PAGE)
 
     @staticmethod
     def _function(library: ctypes.CDLL, name: str, types: List[Any]) -> Any:
@@ -216,37 +167,36 @@ class _Library:
         function.argtypes = types
         return function
 
-    def ask(self, question: Question) -> Answer:
-        function = self._page if question.command == "page" else self._answer
-        facts = _FactsOfC()
-        status, text = self._call(function, [*self.words(question), ctypes.byref(facts)], self.room(question))
-        return Answer(status, text, facts.value())
+    def ask(self, question: Question) -> Report:
+        if question.command in _PAGES:
+            return self._asked_for_page(question)
+        status, data = self._call(self._report, self.words(question), self.room(question))
+        try:
+            return self._read(question, status, data)
+        except (KeyError, TypeError, ValueError) as why:
+            raise RuntimeError(f"the library is of another version than this package, and answers {why}") from why
+
+    @staticmethod
+    def _read(question: Question, status: int, data: bytes) -> Report:
+        line, _, rest = data.partition(b"\n")
+        beside = json.loads(line)
+        if question.command in _TABLES:
+            found, text = beside["refusal"] or {}, rest
+        else:
+            line, _, text = rest.partition(b"\n")
+            found = object_of(line, status)
+        told = beside["hint"]
+        hint = None if told is None else Hint(told["line"], tuple(told["sentences"]))
+        return Report(status, found, lambda: text, tuple(beside["notes"]), hint)
+
+    def _asked_for_page(self, question: Question) -> Report:
+        function = self._page if question.command == "page" else self._groups_page
+        words = [*self.words(question), ctypes.byref(self.FACTS())]
+        status, text = self._call(function, words, self.room(question))
+        return _refusal(self, question) if status == _REFUSED else Report(status, {}, lambda: text)
 
     def has(self, command: str) -> bool:
-        return command in (*_QUESTIONS, "page")
-
-    def says_of_groups(self, question: Question) -> OnGroups:
-        words: List[Any] = []
-        for file in (question.election, question.certificate or b""):
-            words += [file, len(file)]
-        number: int = self._groups(*words, question.mode.exhaustive)
-        if number == _MEMORY:
-            raise MemoryError(_OUT_OF_MEMORY)
-        said = _ON_GROUPS[number]
-        if said is None:
-            raise RuntimeError("pbaudit tells nothing of groups after a yes to prices")
-        return said
-
-    def hint(self, question: Question, facts: Facts) -> Optional[Hint]:
-        line = ctypes.c_uint64()
-        kind = _INPUTS[facts.input] if facts.input in _INPUTS else _KINDS[question.command]
-        file, has_election = _file_of(question, facts.input), facts.input != "election"
-        election = question.election if has_election else b""
-        words = [kind, facts.number, facts.record, file, len(file), election, len(election), has_election,
-                 ctypes.byref(line)]
-        _, text = self._call(self._hint, words, 4096)
-        sentences = text.decode("utf-8", "replace").rstrip("\n")
-        return Hint(line.value or None, sentences) if sentences else None
+        return command in (*_QUESTIONS, *_BY_MEASURE, *_PAGES)
 
     def _call(self, function: Any, words: List[Any], room: int) -> Tuple[int, bytes]:
         while True:
@@ -254,103 +204,109 @@ class _Library:
             status = function(*words, out, room, ctypes.byref(needed))
             if status == _MEMORY:
                 raise MemoryError(_OUT_OF_MEMORY)
+            if status == _USAGE:
+                raise RuntimeError("the library is older than this package, and can't answer all that it asks")
             if needed.value <= room:
                 return status, ctypes.string_at(out, needed.value)
             room = needed.value
 
     @staticmethod
     def room(question: Question) -> int:
-        """How many bytes an answer is given at first; where it needs more, all is audited once more. That of `tidy` is
-        mostly no longer than the certificate and that of `margins` than the election, a page mostly has less than 4 MB,
-        and others have a few lines."""
-        if question.command == "page":
+        """How many bytes an answer is given at first; where it needs more, all is audited once more. A page mostly has less
+        than 4 MB, and an object and its lines a few thousand bytes. Behind these the text of `tidy` is mostly no longer
+        than the certificate, and that of `margins` than the election."""
+        if question.command in _PAGES:
             return 2**22
-        file = {"tidy": question.certificate, "margins": question.election}.get(question.command)
-        return max(4096, len(file or b""))
+        tables = {"tidy": question.certificate, "margins": question.election, "group_margins": question.election}
+        return 2**15 + len(tables.get(question.command) or b"")
 
     @staticmethod
     def words(question: Question) -> List[Any]:
-        """What a call is given ahead of its facts and its room."""
-        if question.command == "page":
+        """What a call is given ahead of its room, and of the facts of a page."""
+        if question.command in _PAGES:
             return _page_words(question)
         # No pointer may be null.
         outcome, certificate, violation = (
             file or b"" for file in (question.outcome, question.certificate, question.violation))
-        return [_QUESTIONS.index(question.command), question.election, len(question.election), outcome, len(outcome),
+        name = question.command + (f"_by_{question.satisfaction}" if question.command in _BY_MEASURE else "")
+        return [_QUESTIONS.index(name), question.election, len(question.election), outcome, len(outcome),
                 question.outcome is not None, certificate, len(certificate), violation, len(violation),
                 question.mode.stable, question.mode.exhaustive, question.mode.cover]
 
 
 class _Program:
-    """Runs the program, on files in a folder of their own."""
+    """Runs the program, or what another runs in its place, on files in a folder of their own: with --json, and once more
+    where what it prints for people is wanted."""
 
-    def __init__(self, path: str):
-        self._path = path
+    def __init__(self, *run: str):
+        first, *rest = run
+        # The folder of the files is where it runs.
+        self._run_by, self._path = [os.path.abspath(first) if os.sep in first else first, *rest], run[-1]
 
-    def ask(self, question: Question) -> Answer:
-        status, text, _, _ = self._answer(question)
-        return Answer(status, text, facts_in(status, text, question.election))
+    def ask(self, question: Question) -> Report:
+        if question.command in (*_TABLES, *_PAGES):
+            return self._asked_for_text(question)
+        status, line, told = self._answer(question, "--json")
+        try:
+            found = object_of(line, status)
+        except ValueError as why:
+            raise RuntimeError(f"{self._path} answers {why}") from why
+        hint = self._hint(question, found, told) if status == _REFUSED else None
+        return Report(status, found, lambda: self._answer(question)[1], hint=hint)
+
+    def _asked_for_text(self, question: Question) -> Report:
+        status, text, _ = self._answer(question)
+        return _refusal(self, question) if status == _REFUSED else Report(status, {}, lambda: text)
 
     def has(self, command: str) -> bool:
-        words = [self._path, command, "--help"]
+        words = [*self._run_by, command, "--help"]
         return subprocess.run(words, stdin=subprocess.DEVNULL, capture_output=True, check=False).returncode == 0
 
-    def says_of_groups(self, question: Question) -> OnGroups:
-        _, text, _, _ = self._answer(replace(question, command="explain", violation=None))
-        # A verdict, a table, and what is said of groups, with an empty line between them.
-        _, _, *told = text.split(b"\n\n")
-        said = [name for begin, name in _GROUP_LINES if told and told[0].startswith(begin)]
-        if not said:
-            raise RuntimeError(f"{self._path} is older than this package, and doesn't tell what a yes says of groups")
-        return said[0]
+    @staticmethod
+    def _hint(question: Question, found: Found, told: bytes) -> Optional[Hint]:
+        """What is told on standard error, as it comes."""
+        name, sentences = found["input"], tuple(filter(None, told.decode("utf-8", "replace").split("\n")))
+        line = line_of_record(_files(question)[name], b";" if name == "election" else b",", found["record"])
+        return Hint(line, sentences, names_file=True) if sentences else None
 
-    def hint(self, question: Question, facts: Facts) -> Optional[Hint]:
-        _, _, told, folder = self._answer(question)
-        line: Optional[int] = None
-        sentences: List[str] = []
-        for each in filter(None, told.decode("utf-8", "replace").split("\n")):
-            named = re.fullmatch(rf"{re.escape(folder)}{os.sep}.*?(?::(\d+))?: (.*)", each)
-            if named and not sentences and named[1]:
-                line = int(named[1])
-            at = f"line {named[1]}: " if named and named[1] and sentences else ""
-            sentences.append(at + (named[2] if named else each))
-        return Hint(line, "\n".join(sentences)) if sentences else None
-
-    def _answer(self, question: Question) -> Tuple[int, bytes, bytes, str]:
-        """The status, both texts, and the folder in which the files lay."""
+    def _answer(self, question: Question, *options: str) -> Tuple[int, bytes, bytes]:
+        """The status, and what comes on standard output and on standard error."""
         try:
-            done, folder = self._run(question)
+            done = self._run(question, *options)
         except OSError as why:
             # No file that was given is at fault, so that this is none of the errors of reading them.
             raise RuntimeError(f"{self._path} can't be run on copies of the files: {why}") from why
         if done.returncode in (0, 1, 2):
-            return done.returncode, done.stdout, done.stderr, folder
+            return done.returncode, done.stdout, done.stderr
         told = done.stderr.decode("utf-8", "replace").strip()
-        if done.returncode == 4 and told == "fault memory":
+        if done.returncode == _MEMORY and told == "fault memory":
             raise MemoryError(_OUT_OF_MEMORY)
-        raise RuntimeError(f"{self._path} ended with status {done.returncode}: {told}")
+        older = " (it may be older than this package)" if done.returncode == _USAGE else ""
+        raise RuntimeError(f"{self._path} ended with status {done.returncode}{older}: {told}")
 
-    def _run(self, question: Question) -> Tuple["subprocess.CompletedProcess[bytes]", str]:
+    def _run(self, question: Question, *options: str) -> "subprocess.CompletedProcess[bytes]":
         with tempfile.TemporaryDirectory(prefix="pbaudit-") as folder:
-            if question.command == "page":
-                return self._run_page(question, folder), folder
-            words = [self._path, question.command, self._file(folder, "election.pb", question.election)]
-            for number, certificate in enumerate(_certificates(question), 1):
-                words.append(self._file(folder, f"certificate{number}.csv", certificate))
-            if question.outcome is not None:
-                words += ["--outcome", self._file(folder, "outcome.csv", question.outcome)]
-            if question.command in _WITH_MODE:
-                words += question.mode.options
-            return subprocess.run(words, stdin=subprocess.DEVNULL, capture_output=True, check=False), folder
+            words = self._page_words(question, folder) if question.command in _PAGES else self._words(question, folder)
+            words = [*self._run_by, *words, *_options(question), *options]
+            return subprocess.run(words, cwd=folder, stdin=subprocess.DEVNULL, capture_output=True, check=False)
 
-    def _run_page(self, question: Question, folder: str) -> "subprocess.CompletedProcess[bytes]":
+    def _words(self, question: Question, folder: str) -> List[str]:
+        """The command and its files, which have the names of their roles."""
+        files = _files(question)
+        for role, data in files.items():
+            self._file(folder, role, data)
+        outcome = [] if question.outcome is None else ["--outcome", "outcome"]
+        command = _WITH_GROUPS.get(question.command, question.command)
+        return [command, *(role for role in files if role != "outcome"), *outcome]
+
+    def _page_words(self, question: Question, folder: str) -> List[str]:
         page = question.page
-        words = [self._path, "page", self._named(folder, "election", page.election, question.election),
-                 self._named(folder, "certificate", page.certificate, question.certificate or b"")]
+        words = ["page", self._named(folder, "election", page.election, question.election)]
+        if question.command == "page":
+            words.append(self._named(folder, "certificate", page.certificate, question.certificate or b""))
         if question.outcome is not None:
             words += ["--outcome", self._named(folder, "outcome", page.outcome, question.outcome)]
-        words += [*question.mode.options, "--language", page.language]
-        return subprocess.run(words, stdin=subprocess.DEVNULL, capture_output=True, check=False)
+        return [*words, "--language", page.language]
 
     def _named(self, folder: str, role: str, name: str, data: bytes) -> str:
         """A file of a name in a folder of its own; where no file can have that name, its name is its role."""
@@ -368,49 +324,56 @@ class _Program:
         return path
 
 
-def facts_in(status: int, text: bytes, election: bytes = b"") -> Facts:
-    """How an answer ends, by the lines that the program prints; a page has none of them, and tells nothing here."""
-    lines = text.decode("utf-8").split("\n")[:2] if status else []
-    refused = re.fullmatch(r"refused (\w+) (\d+) \w+ record (\d+)", lines[0]) if status == 2 else None
-    if refused:
-        return Facts(refused[1], int(refused[2]), int(refused[3]))
-    failing = [_culprit_in(line, election) for line in lines]
-    found = {culprit.name[0] in "VU": culprit for culprit in failing if culprit}
-    return Facts(condition=found.get(False), test=found.get(True))
+def _refusal(auditor: Auditor, question: Question) -> Report:
+    """Why a file is refused, where the answer is a table or a page and so no object: by another question that takes the
+    same files."""
+    other = replace(question, command=_OF_SAME_FILES[question.command])
+    if question.command == "tidy":
+        # That takes no outcome.
+        other = replace(other, outcome=_NOTHING_FUNDED)
+    report = auditor.ask(other)
+    if report.status != _REFUSED:
+        raise RuntimeError(f"pbaudit refuses a file for {question.command}, and none for {other.command}")
+    return report
 
 
-def _culprit_in(line: str, election: bytes) -> Optional[Culprit]:
-    failed = re.fullmatch(r"failed (\w+)(?: voter (\d+))?(?: project (.*))?", line)
-    if failed is None:
-        return None
-    name, voter, project = failed.groups()
-    numbers = (number for number, each in enumerate(ids_of(election), 1) if each == project)
-    return Culprit(name, None if voter is None else int(voter), None if project is None else next(numbers, None))
+def _files(question: Question) -> Dict[str, bytes]:
+    """The files of a question by their roles, in the order of the command."""
+    names = ("certificate", "violation") if question.violation is None else ("prices", "violation")
+    files = zip(("election", *names, "outcome"), (question.election, question.certificate, question.violation, question.outcome))
+    return {name: file for name, file in files if file is not None}
+
+
+def _options(question: Question) -> List[str]:
+    """The options by which the program is asked the question."""
+    if question.command == "groups":
+        return ["--satisfaction", question.satisfaction]
+    if question.command in _WITH_GROUPS:
+        return ["--groups", "--satisfaction", question.satisfaction]
+    if question.command == "refutation":
+        return ["--stable"] if question.mode.stable else []
+    return question.mode.options if question.command in _WITH_MODE else []
 
 
 def _page_words(question: Question) -> List[Any]:
-    """The files with their names, the switches and the language of a page."""
-    # No pointer may be null.
-    outcome, certificate = question.outcome or b"", question.certificate or b""
-    election_name, outcome_name, certificate_name, language = (
-        word.encode("utf-8", "replace")
-        for word in (question.page.election, question.page.outcome, question.page.certificate, question.page.language)
-    )
-    return [question.election, len(question.election), election_name, len(election_name), outcome, len(outcome),
-            outcome_name, len(outcome_name), question.outcome is not None, certificate, len(certificate),
-            certificate_name, len(certificate_name), question.mode.stable, question.mode.exhaustive,
-            question.mode.cover, language, len(language)]
+    """The files of a page with their names, how it asks, and its language."""
+    page, has_outcome = question.page, question.outcome is not None
+    words = [*_named(question.election, page.election), *_named(question.outcome, page.outcome), has_outcome]
+    if question.command == "groups_page":
+        words.append(question.satisfaction == "count")
+    else:
+        mode = question.mode
+        words += [*_named(question.certificate, page.certificate), mode.stable, mode.exhaustive, mode.cover]
+    return [*words, *_text(page.language.encode("utf-8", "replace"))]
 
 
-def _certificates(question: Question) -> List[bytes]:
-    """The certificates of a question, in the order of the command."""
-    return [file for file in (question.certificate, question.violation) if file is not None]
+def _named(file: Optional[bytes], name: str) -> List[Any]:
+    """A file and its name. No pointer may be null."""
+    return [*_text(file or b""), *_text(name.encode("utf-8", "replace"))]
 
 
-def _file_of(question: Question, name: Optional[str]) -> bytes:
-    """The bytes of the input of that name."""
-    files = {"election": question.election, "outcome": question.outcome, "violation": question.violation}
-    return files.get(name or "", question.certificate) or b""
+def _text(data: bytes) -> List[Any]:
+    return [data, len(data)]
 
 
 def _loaded(path: pathlib.Path) -> _Library:
@@ -428,6 +391,9 @@ def _find() -> Auditor:
     program = _places.program()
     if program is not None:
         return _Program(str(program))
+    module = _places.module()
+    if module is not None:
+        return _Program(*module)
     raise ImportError(_HOW_TO_BUILD)
 
 
@@ -435,7 +401,7 @@ _found: Optional[Auditor] = None
 
 
 def auditor() -> Auditor:
-    """The auditor. Raises ImportError where neither the library nor the program is found, or the library can't be
+    """The auditor. Raises ImportError where neither the library nor the program nor the module is found, or it can't be
     used."""
     global _found
     if _found is None:
@@ -443,17 +409,7 @@ def auditor() -> Auditor:
     return _found
 
 
-def ask(question: Question) -> Answer:
-    """The answer to a question. Raises MemoryError where memory ran out, ImportError as
-    `auditor`, and RuntimeError where the program can't be run or doesn't answer."""
+def ask(question: Question) -> Report:
+    """What answers a question. Raises MemoryError where memory ran out, ImportError as `auditor`, and RuntimeError where the
+    program can't be run or doesn't answer."""
     return auditor().ask(question)
-
-
-def hint(question: Question, facts: Facts) -> Optional[Hint]:
-    """What a person is told of a refusal, or None where there is nothing to tell. Raises as `ask`."""
-    return auditor().hint(question, facts)
-
-
-def says_of_groups(question: Question) -> OnGroups:
-    """Of a question on prices that was answered by a yes, what that says of groups. Raises as `ask`."""
-    return auditor().says_of_groups(question)

@@ -11,6 +11,8 @@ MILLION = 10**6
 MOST_COST = 10**12
 MOST_DENOMINATOR = 10**9
 MOST_NUMERATOR = 10**21
+# The digits that are told of a number, and those that one can have here, which Python still writes.
+TOLD_DIGITS, MOST_DIGITS = 60, 4000
 # No float has so many decimals where it is printed without an exponent.
 _TENS = tuple(10**decimals for decimals in range(40))
 
@@ -65,8 +67,15 @@ def exact_cost(amount: object, what: str) -> Fraction:
     """A cost or the limit, which is from 0 to 10^12."""
     cost = exact(amount, what)
     if not 0 <= cost <= MOST_COST:
-        raise ValueError(f"{what} is {cost}, and an election's amounts are from 0 to 10^12")
+        raise ValueError(f"{what} is {shortly(cost)}, and an election's amounts are from 0 to 10^12")
     return cost
+
+
+def shortly(amount: Union[int, Fraction]) -> str:
+    """An amount as an error tells it."""
+    if max(abs(amount.numerator), amount.denominator) < 10**TOLD_DIGITS:
+        return str(amount)
+    return f"a number of more than {TOLD_DIGITS} digits"
 
 
 def near(amount: object, what: str) -> Fraction:
@@ -77,10 +86,16 @@ def near(amount: object, what: str) -> Fraction:
 def ratio(amount: object, what: str) -> Tuple[int, int]:
     """The numerator and the denominator of an amount of any kind. They are Python's own numbers: those of others, also
     within a Fraction, may have no room for a product. Those of a float needn't be in lowest terms."""
-    if type(amount) is int:
+    if type(amount) is int and abs(amount) <= MOST_NUMERATOR:
         return amount, 1
     if isinstance(amount, bool):
         raise TypeError(f"{what} is {amount!r}, not a number")
+    if isinstance(amount, Decimal) and amount.is_finite():
+        if not amount:
+            return 0, 1
+        # The fraction that it stands for may have more digits than there is memory.
+        digits, first = len(amount.as_tuple().digits), amount.adjusted()
+        _check_digits(max(digits, abs(first), digits - first), what)
     try:
         if isinstance(amount, float):
             return ratio_of_float(float(amount))
@@ -96,8 +111,14 @@ def ratio(amount: object, what: str) -> Tuple[int, int]:
         raise TypeError(f"{what} is {amount!r}, not a number") from None
     if denominator < 1:
         raise ValueError(f"{what} is {amount!r}, which isn't an amount")
+    _check_digits(max(numerator.bit_length(), denominator.bit_length()) * 3 // 10, what)
     common = gcd(numerator, denominator)
     return numerator // common, denominator // common
+
+
+def _check_digits(digits: int, what: str) -> None:
+    if digits > MOST_DIGITS:
+        raise ValueError(f"{what} is a number of more than {MOST_DIGITS} digits, which isn't an amount")
 
 
 def own(number: Any) -> int:

@@ -9,40 +9,44 @@ Where neither the library nor the program is found, or what is found can't be us
 RuntimeError.
 """
 import os
-import re
 from dataclasses import dataclass, replace
 from fractions import Fraction
 from typing import Any, ClassVar, Dict, List, Literal, Optional, Tuple
 
-from ._auditor import Answer, Culprit, Facts, Mode, OnGroups, PageWords, Question, ask, facts_in, hint, says_of_groups
+from ._auditor import Hint, Mode, PageWords, Question, Report, Satisfaction, ask
 from .files import MOST_BYTES, File, bytes_of, path_of
 from .kept import Kept, keep, source_of, stamp_of
+from .objects import Found, election_notes, line_of
 from .records import records
+from .sentences import rows_of
 from .shown import visible
 from .tables import Result
 
 __all__ = [
-    "MOST_BYTES", "Explanation", "File", "Finding", "ProjectMargins", "Refusal", "Summary", "Verdict", "answered",
+    "MOST_BYTES", "Asked", "Explanation", "File", "Finding", "ProjectMargins", "Refusal", "Summary", "Verdict", "answered",
     "audit_both", "audit_prices", "audit_refutation", "audit_violation", "bytes_of", "explain", "margins", "read", "tidy",
     "verdict",
 ]
-Refutes = Literal["all", "with Cover"]
-# The lines of a yes.
-_OF_PRICES = ("supported priceable", "supported stable")
-_REFUTES: Dict[str, Refutes] = {"unpriceable": "all", "unpriceable cover": "with Cover"}
-_YES = (*_OF_PRICES, "violation", *_REFUTES)
+OnGroups = Literal["strict", "weak", "little"]
+Refutes = Literal["all", "with Cover", "stable", "stable with Cover"]
+# By what a refutation proves.
+_REFUTES: Dict[str, Refutes] = {"unpriceable": "all", "unpriceable cover": "with Cover", "unpriceable stable": "stable",
+                                "unpriceable stable cover": "stable with Cover"}
 # Longer bytes are no path.
 _LONGEST_PATH = 4096
+_GIVE_A_PATH = ("bytes are taken for the contents of a file: give a path as a str",)
+_REFUSED = 2
 
 
 class Refusal(ValueError):
     """A file isn't what it has to be. `str` tells all: the line that the program prints, and what is wrong.
 
     `input` is "election", "outcome" or "certificate" (of `audit_both` "prices" or "violation"); `file` is the path by
-    which it was given, or else that name; `number` and `name` are those of docs/FORMATS.md; `record` is the record at
+    which it was given, or otherwise that name; `number` and `name` are those of docs/FORMATS.md; `record` is the record at
     which the first fault stands, numbered from 1, or 0 where it stands at none; `line` is the line of the file on which
-    that record begins, from 1, or None; `reason` is what is wrong, in sentences of a line each, or None where the
-    auditor is older and doesn't say; and `printed` is the line that the program prints.
+    that record begins, from 1, or None; `reason` is what is wrong, in sentences of a line each, or None where nothing is
+    told (where the program or Node answers, each sentence begins with what is refused, and the line); and `printed` is the
+    line that the program prints.
 
     >>> try:
     ...     read(b"PROJECTS")
@@ -51,36 +55,39 @@ class Refusal(ValueError):
     refused election 2 NoMeta record 1
     """
 
-    def __init__(self, printed: str, file: Optional[str] = None, line: Optional[int] = None,
-                 reason: Optional[str] = None, *, _facts: Optional[Facts] = None):
-        super().__init__(printed, file, line, reason)
-        facts = _facts or facts_in(2, printed.encode("utf-8"))
-        if facts.input is None:
-            raise ValueError(f"{printed!r} isn't the line of a refusal")
-        self.input, self.number, self.name, self.record = facts.input, facts.number, _fault_in(printed), facts.record
-        self.printed, self.file, self.line, self.reason = printed, file or self.input, line, reason
+    def __init__(self, found: Found, file: Optional[str] = None, hint: Optional[Hint] = None, advice: Tuple[str, ...] = ()):
+        hint = hint or Hint(None, ())
+        printed, reason = line_of(found), "\n".join([*hint.sentences, *advice]) or None
+        super().__init__(printed, file, hint.line, reason)
+        self._parts = found, file, hint, advice
+        self.input, self.number, self.name, self.record = (found[key] for key in ("input", "number", "name", "record"))
+        self.printed, self.file, self.line, self.reason = printed, file or self.input, hint.line, reason
+
+    def __reduce__(self) -> Tuple[Any, ...]:
+        return Refusal, self._parts
 
     def __str__(self) -> str:
         return "\n".join([self.printed, *self.sentences()])
 
     def sentences(self) -> List[str]:
-        """The reason, sentence by sentence, each behind the file, in a visible form, and the line that it is about."""
-        sentences, line = [], self.line
-        for sentence in self.reason.split("\n") if self.reason else ():
-            other = re.match(r"line (\d+): ", sentence)
-            at = other[1] if other else line
-            sentences.append(f"{visible(self.file)}{'' if at is None else f':{at}'}: {sentence[other.end() if other else 0:]}")
-            # The first sentence is about the record, and others about the file.
-            line = None
-        return sentences
+        """The reason, sentence by sentence, each behind the file, in a visible form; the first, which is about the record,
+        behind its line too."""
+        _, _, hint, advice = self._parts
+        if hint.names_file:
+            return [*hint.sentences, *self._placed(advice)]
+        at = "" if hint.line is None else f":{hint.line}"
+        return self._placed(hint.sentences[:1], at) + self._placed(hint.sentences[1:] + advice)
+
+    def _placed(self, sentences: Tuple[str, ...], at: str = "") -> List[str]:
+        return [f"{visible(self.file)}{at}: {sentence}" for sentence in sentences]
 
 
 @dataclass(frozen=True)
 class Verdict(Result):
     """The answer to an audit: true where all that was asked holds. `str` is the line that the program prints.
 
-    Where something fails, `condition` names the first that does, as "C3", "V4" or "U2", and `voter` (numbered from 1, by
-    the ballots) and `project` (the id) say where, each None where the condition names none. `moved` is None but where
+    If something fails, `condition` names the first that does, as "C3", "V4" or "U2", and `voter` (numbered from 1, by
+    the ballots) and `project` (the id) say where, each None if the condition names none. `moved` is None but where
     `validate_price_system` was asked for prices near the given ones: then it is how far the payment that moved farthest
     did, in the currency of the costs. A notebook shows a verdict as the page about its certificate.
 
@@ -92,7 +99,8 @@ class Verdict(Result):
     nearly any outcome that costs little is supported, and `says_little` is true. Of any other verdict it is None.
 
     Of a yes to a refutation `refutes` says which prices can't support the outcome: "all", or "with Cover", those whose
-    voter budgets together are more than the limit; it is None of any other verdict.
+    voter budgets together are more than the limit; where stable ones were asked for, "stable" or "stable with Cover" too,
+    which are those in the stable form. It is None of any other verdict.
 
     >>> verdict = audit_prices("town.pb", write_prices(4, [{"a": 2, "b": 2}, {"a": 4}, {"b": 1}]))
     >>> bool(verdict), verdict.condition, verdict.project
@@ -232,17 +240,9 @@ def read(election: File) -> Summary:
     >>> print(read("town.pb"))
     read 3 voters 3 projects 2 funded
     """
-    line, *notes = _Asked("read", election).lines()
-    return Summary(*_counts_in(line), tuple(note[len("note: "):] for note in notes), line)
-
-
-def _counts_in(line: str) -> Tuple[int, int, Optional[int]]:
-    """How many voters, projects and funded projects the line of `read` counts."""
-    form = re.fullmatch(r"read (\d+) voters (\d+) projects (?:(\d+) funded|no outcome)", line)
-    if form is None:
-        raise RuntimeError(f"pbaudit answers {line!r}")
-    voters, projects, funded = form.groups()
-    return int(voters), int(projects), None if funded is None else int(funded)
+    found = Asked("read", election).object()
+    counts = found["election"]
+    return Summary(counts["voters"], counts["projects"], counts["funded"], tuple(election_notes(counts)), line_of(found))
 
 
 def audit_prices(election: File, certificate: File, outcome: Optional[File] = None, *, stable: bool = False,
@@ -255,7 +255,7 @@ def audit_prices(election: File, certificate: File, outcome: Optional[File] = No
     supported priceable
     """
     mode = Mode(stable, exhaustive, cover)
-    return _only_verdict(_Asked("prices", election, certificate=certificate, outcome=outcome, mode=mode))
+    return _only_verdict(Asked("prices", election, certificate=certificate, outcome=outcome, mode=mode))
 
 
 def audit_violation(election: File, certificate: File, outcome: Optional[File] = None) -> Verdict:
@@ -266,20 +266,25 @@ def audit_violation(election: File, certificate: File, outcome: Optional[File] =
     >>> print(audit_violation("town.pb", claim, nothing))
     violation
     """
-    return _only_verdict(_Asked("violation", election, certificate=certificate, outcome=outcome))
+    return _only_verdict(Asked("violation", election, certificate=certificate, outcome=outcome))
 
 
-def audit_refutation(election: File, certificate: File, outcome: Optional[File] = None) -> Verdict:
+def audit_refutation(election: File, certificate: File, outcome: Optional[File] = None, *,
+                     stable: bool = False) -> Verdict:
     """Whether the weights of a refutation prove that no prices whatever support the outcome, in any form; with a weight
-    of Cover, none whose voter budgets together are more than the limit. The outcome is as for `audit_prices`. Raises
-    Refusal, OSError and MemoryError.
+    of Cover, none whose voter budgets together are more than the limit. With `stable`, weights that don't prove it may
+    prove it of prices in the stable form, and `refutes` of the verdict says which it is. The outcome is as for
+    `audit_prices`. Raises Refusal, OSError and MemoryError.
 
     >>> claim = write_refutation(least={"a": 2}, most={"b": 1}, left={"c": 1})
     >>> verdict = audit_refutation("town.pb", claim)
     >>> bool(verdict), verdict.condition
     (False, 'U2')
+    >>> town = write_election(Instance([Project("a", 4), Project("c", 1)], 10), [["a", "c"]] * 2, ["a"])
+    >>> audit_refutation(town, write_refutation(least={"a": 1}, left={"c": 1}), stable=True).refutes
+    'stable'
     """
-    return _only_verdict(_Asked("refutation", election, certificate=certificate, outcome=outcome))
+    return _only_verdict(Asked("refutation", election, certificate=certificate, outcome=outcome, mode=Mode(stable)))
 
 
 def audit_both(election: File, prices: File, violation: File, outcome: Optional[File] = None, *, stable: bool = False,
@@ -293,8 +298,8 @@ def audit_both(election: File, prices: File, violation: File, outcome: Optional[
     (True, 'V4')
     """
     mode = Mode(stable, exhaustive, cover)
-    asked = _Asked("both", election, prices=prices, violation=violation, outcome=outcome, mode=mode)
-    of_prices, of_violation = asked.verdicts(*_lines_of(asked, 2))
+    asked = Asked("both", election, prices=prices, violation=violation, outcome=outcome, mode=mode)
+    of_prices, of_violation = asked.verdicts()
     return of_prices, of_violation
 
 
@@ -306,7 +311,7 @@ def margins(election: File, certificate: File, outcome: Optional[File] = None) -
     >>> first.project, first.cost == first.paid
     ('a', True)
     """
-    text = _Asked("margins", election, certificate=certificate, outcome=outcome).text()
+    text = Asked("margins", election, certificate=certificate, outcome=outcome).text()
     _, (_, grains_per_unit), _, *rows = records(text, b",")
     return tuple(
         ProjectMargins(project.decode(), funded == b"1", int(supporters),
@@ -319,30 +324,30 @@ def explain(election: File, certificate: File, outcome: Optional[File] = None, *
             exhaustive: bool = True, cover: bool = False) -> Explanation:
     """What each condition comes to by a price certificate, or each test by a violation certificate or a refutation, with
     the verdict of `audit_prices`, `audit_violation` or `audit_refutation`. The outcome and the switches are as for
-    `audit_prices`; only prices depend on the switches. Raises Refusal, OSError and MemoryError.
+    `audit_prices`; only prices depend on all of them, and a refutation on `stable`. Raises Refusal, OSError and
+    MemoryError.
 
     >>> told = explain("town.pb", "town.prices.csv")
     >>> [finding.name for finding in told.findings if finding.state != "holds"]
     ['Cover', 'S5']
     """
-    asked = _Asked("explain", election, certificate=certificate, outcome=outcome, mode=Mode(stable, exhaustive, cover))
-    found, = asked.verdicts(asked.lines()[0])
-    return _explanation(found, asked.text())
+    asked = Asked("explain", election, certificate=certificate, outcome=outcome, mode=Mode(stable, exhaustive, cover))
+    found, = asked.verdicts()
+    return _explanation(found, asked.question, asked.report())
 
 
 def _explained(question: Question, kept: Optional[Kept]) -> Explanation:
     """The explanation that answers a question, whose files were accepted before."""
-    answer = answered(question)
-    line, *_ = answer.text.decode("utf-8").split("\n")
-    return _explanation(_single_verdict(line, answer, question, kept), answer.text)
+    report = answered(question)
+    return _explanation(_verdict(report.found, kept), question, report)
 
 
-def _explanation(found: Verdict, text: bytes) -> Explanation:
-    # The verdict, the table, and what a yes says of groups, with an empty line between them.
-    _, table, *groups = text.decode("utf-8").rstrip("\n").split("\n\n")
-    # Names stand in 12 columns and states in 11.
-    findings = tuple(Finding(row[:12].rstrip(), row[12:23].rstrip(), row[23:]) for row in table.split("\n"))
-    return Explanation(found, findings, text.decode("utf-8"), tuple(line for part in groups for line in part.split("\n")))
+def _explanation(verdict: Verdict, question: Question, report: Report) -> Explanation:
+    findings = tuple(Finding(*row) for row in rows_of(report.found, question.certificate or b""))
+    text = report.text.decode("utf-8")
+    # A line for each finding stands between two that are empty, behind the verdict. The rest is on groups.
+    groups = text.rstrip("\n").split("\n")[len(findings) + 3:]
+    return Explanation(verdict, findings, text, tuple(groups))
 
 
 def tidy(election: File, certificate: File) -> bytes:
@@ -352,30 +357,18 @@ def tidy(election: File, certificate: File) -> bytes:
     >>> tidy("town.pb", untidy).splitlines()[-1]
     b'1,a,2'
     """
-    return _Asked("tidy", election, certificate=certificate).text()
+    return Asked("tidy", election, certificate=certificate).text()
 
 
-def page_bytes(election: File, certificate: File, outcome: Optional[File], mode: Mode, page: PageWords) -> bytes:
-    """The page about a certificate. Raises as `printed`."""
-    return _judged("page", election, outcome, mode, page, certificate=certificate).text()
-
-
-def printed(command: str, election: File, outcome: Optional[File], mode: Mode, **certificates: File) -> Tuple[int, bytes, bool]:
-    """The status and the text of a command, and whether it is a yes to prices that says little. Raises Refusal, OSError
-    and MemoryError; that a file is refused stands before that one behind it can't be read, as with the program."""
-    asked = _judged(command, election, outcome, mode, PageWords(), **certificates)
-    answer = asked.answer()
-    line = answer.text.split(b"\n", 1)[0].decode("utf-8")
-    return answer.status, answer.text, line in _OF_PRICES and says_of_groups(asked.question) == "little"
-
-
-def _judged(command: str, election: File, outcome: Optional[File], mode: Mode, page: PageWords,
-            **certificates: File) -> "_Asked":
+def asked_in_turn(blank: Question, election: File, outcome: Optional[File], **certificates: File) -> "Asked":
+    """A question that has no files yet, of these. Raises OSError; or Refusal, where a file is refused that stands before
+    the one that can't be read, as with the program."""
     try:
-        return _Asked(command, election, outcome=outcome, mode=mode, page=page, **certificates)
+        return Asked(blank.command, election, outcome=outcome, mode=blank.mode, page=blank.page,
+                     satisfaction=blank.satisfaction, **certificates)
     except OSError:
         given = {"election": election, **({} if outcome is None else {"outcome": outcome}), **certificates}
-        _judge_ahead(Question(command, b"", mode=mode, page=page), given)
+        _judge_ahead(blank, given)
         raise
 
 
@@ -404,38 +397,21 @@ def _judge_ahead(question: Question, given: Dict[str, File]) -> None:
 
 def verdict(question: Question) -> Verdict:
     """The verdict that answers a question on a certificate, with files that were made of values."""
-    answer = answered(question)
-    return _single_verdict(answer.text.decode("utf-8").rstrip("\n"), answer, question, keep(question))
+    return _verdict(answered(question).found, keep(question))
 
 
-def _single_verdict(line: str, answer: Answer, question: Question, kept: Optional[Kept]) -> Verdict:
-    """The verdict by this line of an answer that has no other."""
-    found = _verdict(line, answer.facts.condition or answer.facts.test, question, kept)
-    _check_status(answer.status, [found])
-    return found
-
-
-def _only_verdict(asked: "_Asked") -> Verdict:
-    only, = asked.verdicts(*_lines_of(asked, 1))
+def _only_verdict(asked: "Asked") -> Verdict:
+    only, = asked.verdicts()
     return only
 
 
-def _lines_of(asked: "_Asked", number: int) -> List[str]:
-    """The lines of an answer that has so many. Raises RuntimeError for another."""
-    lines = asked.lines()
-    if len(lines) != number:
-        raise RuntimeError(f"pbaudit answers {asked.text().decode('utf-8')!r}")
-    return lines
-
-
-def _verdict(line: str, failing: Optional[Culprit], question: Question, kept: Optional[Kept]) -> Verdict:
-    if failing:
-        found = Verdict(False, line, failing.name, failing.voter, failing.project_in(line))
-    elif line in _YES:
-        said = says_of_groups(question) if line in _OF_PRICES else None
-        found = Verdict(True, line, says_of_groups=said, refutes=_REFUTES.get(line))
+def _verdict(answer: Found, kept: Optional[Kept]) -> Verdict:
+    """The verdict that an object on one certificate is."""
+    line, failed = line_of(answer), answer["failed"]
+    if failed is None:
+        found = Verdict(True, line, says_of_groups=answer.get("groups"), refutes=_REFUTES.get(answer.get("proves", "")))
     else:
-        raise RuntimeError(f"pbaudit answers {line!r}")
+        found = Verdict(False, line, failed["name"], failed["voter"], failed["project"])
     object.__setattr__(found, "_kept", kept)
     return found
 
@@ -447,17 +423,11 @@ def with_moved(found: Verdict, moved: Fraction, raised: Fraction) -> Verdict:
     return other
 
 
-def _check_status(status: int, verdicts: List[Verdict]) -> None:
-    """Raises RuntimeError where the status isn't that of these verdicts."""
-    if status != (0 if all(verdicts) else 1):
-        raise RuntimeError(f"pbaudit answers {' and '.join(map(repr, map(str, verdicts)))} with status {status}")
-
-
-class _Asked:
+class Asked:
     """A command on files as they were given, which are all read here, and its answer."""
 
     def __init__(self, command: str, election: File, *, outcome: Optional[File] = None, mode: Mode = Mode(),
-                 page: PageWords = PageWords(), **certificates: File):
+                 page: PageWords = PageWords(), satisfaction: Satisfaction = "cost", **certificates: File):
         self._given: Dict[str, File] = {"election": election, **certificates}
         if outcome is not None:
             self._given["outcome"] = outcome
@@ -465,60 +435,52 @@ class _Asked:
         data = {name: bytes_of(file) for name, file in self._given.items()}
         self._sources = {name: source_of(file, stamps[name], data[name]) for name, file in self._given.items()}
         first, second = (*(data[name] for name in certificates), None, None)[:2]
-        self.question = Question(command, data["election"], first, second, data.get("outcome"), mode, page)
-        self._answer: Optional[Answer] = None
+        outcome_data = data.get("outcome")
+        self.question = Question(command, data["election"], first, second, outcome_data, mode, page, satisfaction)
+        self._report: Optional[Report] = None
 
-    def answer(self) -> Answer:
-        """The answer. Raises Refusal where a file is refused."""
-        if self._answer is None:
-            self._answer = answered(self.question, self._given)
-        return self._answer
+    def report(self) -> Report:
+        """What answers. Raises Refusal where a file is refused."""
+        if self._report is None:
+            self._report = answered(self.question, self._given)
+        return self._report
+
+    def object(self) -> Found:
+        """The answer as an object. Raises as `report`."""
+        return self.report().found
 
     def text(self) -> bytes:
-        return self.answer().text
+        """What is printed. Raises as `report`."""
+        return self.report().text
 
-    def lines(self) -> List[str]:
-        return self.text().decode("utf-8").rstrip("\n").split("\n")
-
-    def verdicts(self, *lines: str) -> List[Verdict]:
-        """The verdicts by these lines of the answer, which go with its status."""
-        question, mode, answer = self.question, self.question.mode, self.answer()
+    def verdicts(self) -> List[Verdict]:
+        """The verdict on each certificate. Raises as `report`."""
+        question, found = self.question, self.object()
         election, first, second, outcome = question.election, question.certificate, question.violation, question.outcome
         certificates = [name for name in self._given if name not in ("election", "outcome")]
-        questions, failing = [question], [answer.facts.condition or answer.facts.test]
+        questions, answers = [question], [found]
         if second is not None:
-            questions = [Question("prices", election, first, None, outcome, mode),
+            questions = [Question("prices", election, first, None, outcome, question.mode),
                          Question("violation", election, second, None, outcome)]
-            failing = [answer.facts.condition, answer.facts.test]
+            answers = [found["prices"], found["violation"]]
         kept = [keep(each, {**self._sources, "certificate": self._sources[name]})
                 for name, each in zip(certificates, questions)]
-        verdicts = [_verdict(*each) for each in zip(lines, failing, questions, kept)]
-        _check_status(answer.status, verdicts)
-        return verdicts
+        return list(map(_verdict, answers, kept))
 
 
-def answered(question: Question, given: Optional[Dict[str, File]] = None) -> Answer:
-    """The answer to a question, of which the status is 0 or 1. Raises Refusal where a file is refused, with the name of
-    the one that was given."""
-    answer = ask(question)
-    if answer.status == 2:
-        raise _refusal(question, answer, given or {})
-    return answer
+def answered(question: Question, given: Optional[Dict[str, File]] = None) -> Report:
+    """What answers a question, of which the status is 0 or 1. Raises Refusal where a file is refused, with the name of the
+    one that was given."""
+    report = ask(question)
+    if report.status == _REFUSED:
+        raise _refusal(report, given or {})
+    return report
 
 
-def _refusal(question: Question, answer: Answer, given: Dict[str, File]) -> Refusal:
-    file = given.get(answer.facts.input or "")
-    told = hint(question, answer.facts)
-    sentences = [told.sentences] if told else []
-    if isinstance(file, (bytes, bytearray, memoryview)) and _looks_like_a_path(bytes(file)):
-        sentences.append("bytes are taken for the contents of a file: give a path as a str")
-    return Refusal(answer.text.decode("utf-8").rstrip("\n"), path_of(file), told.line if told else None,
-                   "\n".join(sentences) or None, _facts=answer.facts)
-
-
-def _fault_in(printed: str) -> str:
-    """The name of the fault, which stands behind its number in the line of a refusal."""
-    return printed.split(" ")[3]
+def _refusal(report: Report, given: Dict[str, File]) -> Refusal:
+    file = given.get(report.found["input"])
+    is_path = isinstance(file, (bytes, bytearray, memoryview)) and _looks_like_a_path(bytes(file))
+    return Refusal(report.found, path_of(file), report.hint, _GIVE_A_PATH if is_path else ())
 
 
 def _looks_like_a_path(data: bytes) -> bool:

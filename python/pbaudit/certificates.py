@@ -103,7 +103,7 @@ def price_certificate(instance: AnyInstance, profile: Profile, budget_allocation
     common denominator is at most 10^9. Floats may be off by a solver's noise: a millionth of the voter budget for each
     voter, and of its cost for each project; what a voter pays for a project that it doesn't approve is never left out.
     Their voter budget may be lowered for C5 and S5, and payments may be moved among supporters: within noise where that
-    does, and else farther, by a linear programme where scipy is installed. `moved` and `raised` say how far.
+    does, and otherwise farther, with a linear program if scipy is installed. `moved` and `raised` say how far.
     `denominator` asks for this one; without it the exact one is tried where it is at most 10^9, and then 100, 10^4, 10^6
     and 10^9 (or multiples near them where costs have other parts). `seconds` is how long a repair may take; where it runs
     out that is a CannotKeep too. `on_progress` is called with what is tried and how many seconds are left.

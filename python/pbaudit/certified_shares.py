@@ -155,7 +155,7 @@ def clear_progress() -> None:
 
 
 def _amount(amount: Fraction) -> str:
-    """An exact amount: a decimal where it has at most six decimals, and else a whole number and a fraction."""
+    """An exact amount: a decimal if it has at most six decimals, and otherwise a whole number and a fraction."""
     if (amount * MILLION).denominator == 1:
         return money(amount, "the amount")
     whole, rest = divmod(amount, 1)

@@ -1,7 +1,7 @@
 """What can be told of prices without the size of payments: where no certificate states them exactly.
 
 Which conditions hold is the auditor's answer here as well. It gets a certificate of which each payment is 0 where the
-given one is, and else more; the first payer of a funded project pays what the others, who pay next to nothing, leave.
+given one is, and otherwise more; the first payer of a funded project pays what the others, who pay next to nothing, leave.
 """
 from fractions import Fraction
 from typing import Dict, Optional

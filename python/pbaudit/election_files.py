@@ -44,13 +44,14 @@ def election_of(data: bytes) -> Election:
     return Election(Projects(costs), list(costs.values()), limit, ballots, funded)
 
 
-def ids_of(data: bytes) -> Iterator[str]:
-    """The ids of the projects of a file, in their order."""
-    for section, header, row in _rows(data):
-        if section == b"votes":
-            return
-        if section == b"projects":
-            yield _cell(header, row, b"project_id").decode("utf-8")
+def description_of(data: bytes) -> str:
+    """What a file calls its election, or an empty text."""
+    for section, _, row in _rows(data):
+        if section != b"meta":
+            break
+        if row[0].lower() == b"description":
+            return b"".join(row[1:2]).decode("utf-8")
+    return ""
 
 
 def _projects_of(rows: Iterator[Row]) -> Tuple[Dict[str, Fraction], Optional[Set[int]]]:

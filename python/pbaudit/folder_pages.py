@@ -1,5 +1,5 @@
-"""The pages about the certificates of a folder, and an index of them. The auditor makes each page, and each answer on
-the index is the line of `pbaudit folder` and the title of the page."""
+"""The pages about the certificates of a folder, and an index of them. The auditor makes each page. On the index each answer
+has the line of `pbaudit folder` and a title, which is that of the page."""
 import html
 import os
 from dataclasses import dataclass
@@ -9,7 +9,10 @@ from urllib.parse import quote
 
 from ._auditor import Mode, PageWords, Question, ask
 from .files import Path
-from .folders import Entry, FolderReport, Line, audit_read, bytes_of_entry, entries_of, folder_path, report_on
+from .folders import (
+    CERTIFICATES, Entry, FolderReport, Line, audit_read, bytes_of_entry, entries_of, folder_path, report_on, total_line,
+)
+from .headlines import title_of
 from .pages import Language, checked_language
 from .shown import visible
 
@@ -53,11 +56,12 @@ class NotReplaced(ValueError):
 
 @dataclass(frozen=True)
 class _Pages:
-    """An entry with the line on each of its files, and its pages by the endings of their certificates."""
+    """An entry with the line on each of its files, and its pages and their titles by the endings of their certificates."""
 
     entry: Entry
     lines: List[Line]
     pages: Dict[str, bytes]
+    titles: Dict[str, str]
 
 
 def write_folder_pages(folder: Path, path: Path, *, stable: bool = False, exhaustive: bool = True,
@@ -94,14 +98,12 @@ def _made(entry: Entry, language: str) -> _Pages:
     """What is found of an entry, and the pages on its certificates that are answered. Each file is read once."""
     read = lru_cache(maxsize=None)(partial(bytes_of_entry, entry))
     lines = audit_read(entry, read)
-    pages = {}
-    for each in lines:
-        ending = each.ending
-        if ending != ".pb" and each.status < 2:
-            words = PageWords(entry.name + ".pb", entry.name + ending, language=language)
-            question = Question("page", read(".pb") or b"", read(ending) or b"", mode=entry.mode, page=words)
-            pages[ending] = ask(question).text
-    return _Pages(entry, lines, pages)
+    pages, titles, election, name = {}, {}, read(".pb") or b"", entry.name + ".pb"
+    for ending, is_yes in ((each.ending, each.status == 0) for each in lines if each.ending != ".pb" and each.status < 2):
+        words = PageWords(name, entry.name + ending, language=language)
+        pages[ending] = ask(Question("page", election, read(ending) or b"", mode=entry.mode, page=words)).text
+        titles[ending] = title_of(election, name, CERTIFICATES[ending], is_yes, entry.mode.stable, language)
+    return _Pages(entry, lines, pages, titles)
 
 
 def _page_name(entry: Entry, ending: str) -> str:
@@ -143,17 +145,12 @@ def _item(made: _Pages, found: Line) -> str:
         return code
     # A name with a colon would be taken for a scheme, so that is written by its number as well.
     place = quote(_page_name(made.entry, ending), safe="")
-    return f'<a href="{place}"><bdi>{_title(made.pages[ending])}</bdi></a>{code}'
-
-
-def _title(page: bytes) -> str:
-    """The title of a page, which ends with the answer in a sentence. It is markup: the auditor escaped it."""
-    return page.split(b"<title>", 1)[1].split(b"</title>", 1)[0].decode("utf-8")
+    return f'<a href="{place}"><bdi>{html.escape(made.titles[ending])}</bdi></a>{code}'
 
 
 def _index(sections: List[str], report: FolderReport, language: str) -> str:
     title = _TITLES[language]
-    total = html.escape(report.text.rstrip("\n").split("\n")[-1])
+    total = html.escape(total_line(report.results))
     return (f'<!DOCTYPE html>\n<html lang="{language}"><head><meta charset="utf-8">'
             f'<meta http-equiv="Content-Security-Policy" content="{_POLICY}">'
             f'<meta name="viewport" content="width=device-width, initial-scale=1">{GENERATOR.decode()}'

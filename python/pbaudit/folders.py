@@ -4,7 +4,6 @@ import html
 import logging
 import os
 import queue
-import re
 import threading
 import uuid
 from concurrent.futures import BrokenExecutor, Executor, Future
@@ -12,9 +11,10 @@ from dataclasses import dataclass, field
 from functools import partial
 from typing import Any, Callable, Dict, Iterator, List, NamedTuple, Optional, Sequence, Tuple
 
-from ._auditor import Answer, Mode, Question, ask
+from ._auditor import Mode, Question, Satisfaction, ask, measured
 from .files import MOST_BYTES, Path, checked_call
 from .helpers import Helper
+from .objects import STATUSES, VERSION, Found as Answer, line_of, read_line, unread_of
 from .shown import visible
 from .tables import Result, frame_of, html_of
 
@@ -24,16 +24,21 @@ LOG = logging.getLogger("pbaudit")
 # A task whose worker was lost so often is cut into its elections, and one of a single election is given up.
 MOST_LOSSES = 2
 LOST = "fault worker"
-UNREAD = "refused {} 18 Read record 0"
+UNREAD = line_of(unread_of("{}"))
 # What a task has at most: elections, and bytes of their files. A cluster takes about 20 ms for a task, and an audit of
 # so many bytes about 100 ms.
 MOST_OF_A_TASK, MOST_BYTES_OF_A_TASK = 50, 2**23
 CERTIFICATES = {".prices.csv": "prices", ".violation.csv": "violation"}
+# Why a file isn't one of the elections of a folder, and how many of them a line names.
+MISNAMED = "an election is NAME.pb, with the ending in lower case"
+IRREGULAR, UNCLEAN = "only regular files are, and no links, folders or pipes", "their names have control characters"
+MOST_NAMED = 5
 
 
 class Line(NamedTuple):
-    """What was found of a file that was audited: its ending, the line that the program prints, and the status; and of a
-    no the condition that fails first with the voter and the project that it names."""
+    """What was found of a file that was audited: its ending, the line that the program prints, and the status; of a no the
+    condition that fails first with the voter and the project that it names; and of an election the line on groups, where
+    that was asked for."""
 
     ending: str
     line: str
@@ -41,13 +46,14 @@ class Line(NamedTuple):
     condition: Optional[str] = None
     voter: Optional[int] = None
     project: Optional[str] = None
+    groups: Optional[str] = None
 
 
 class FileResult(NamedTuple):
     """What was found of a file of a folder: the name of its election, without `.pb`, and its own; its `kind`,
     "election", "prices" or "violation"; the `answer`, "read" of an election, "yes" or "no" of a certificate, "refused",
-    or "lost"; of a no the condition that fails first with the voter and the project that it names; and the line that
-    the program prints.
+    or "lost"; of a no the condition that fails first with the voter and the project that it names; the line that the
+    program prints; and of an election with an outcome, where groups were asked for, the line of `audit_groups`.
 
     >>> [(result.file, result.answer) for result in audit_folder("elections").results]
     [('town.pb', 'read'), ('town.prices.csv', 'yes')]
@@ -61,6 +67,7 @@ class FileResult(NamedTuple):
     voter: Optional[int]
     project: Optional[str]
     line: str
+    groups: Optional[str] = None
 
     def to_dict(self) -> Dict[str, Any]:
         """Its fields by their names."""
@@ -81,8 +88,8 @@ class FileResult(NamedTuple):
 
 @dataclass(frozen=True)
 class FolderReport(Result):
-    """The report on a folder: its text, and a status as that of `pbaudit folder`: 2 where a file is refused, else 1
-    where a certificate is answered no, else 0. It is true where the status is 0. Where an election by itself had its
+    """The report on a folder: its text, and a status like that of `pbaudit folder`: 2 if a file is refused, otherwise 1
+    if a certificate is answered no, and otherwise 0. It is true if the status is 0. Where an election by itself had its
     worker lost twice, the line on it ends in `fault worker`, its name (without `.pb`) is in `lost`, and the status is
     4. `results` has a row for each file in the order of the text, as `pandas.DataFrame(report.results)` takes them.
 
@@ -101,11 +108,13 @@ class FolderReport(Result):
 
     def _repr_html_(self) -> str:
         """The report as a table, as a notebook shows it."""
-        rows = [("File", "Answer"), *((result.file, result.line) for result in self.results)]
+        rows: List[Tuple[str, ...]] = [("File", "Answer", "Groups")]
+        rows += [(result.file, result.line, result.groups or "") for result in self.results]
+        if not any(result.groups for result in self.results):
+            rows = [row[:2] for row in rows]
         cells = ("".join(f"<{tag}><bdi>{html.escape(visible(text))}</bdi></{tag}>" for text in row)
                  for tag, row in zip(["th", *["td"] * len(rows)], rows))
-        total = html.escape(self.text.rstrip("\n").split("\n")[-1])
-        return f'<table>{"".join(f"<tr>{row}</tr>" for row in cells)}</table><p>{total}</p>'
+        return f'<table>{"".join(f"<tr>{row}</tr>" for row in cells)}</table><p>{html.escape(total_line(self.results))}</p>'
 
     def __bool__(self) -> bool:
         return self.status == 0
@@ -116,14 +125,15 @@ class FolderReport(Result):
 
 @dataclass(frozen=True)
 class Entry:
-    """An election of a folder, by its name without `.pb`, and the certificates beside it, endings of file names; and
-    how many bytes these files have."""
+    """An election of a folder, by its name without `.pb`, and the certificates beside it, endings of file names; how many
+    bytes these files have; in which mode prices are audited; and by which measure groups are, or None."""
 
     folder: str
     name: str
     certificates: Tuple[str, ...]
     size: int
     mode: Mode
+    groups: Optional[Satisfaction] = None
 
 
 @dataclass(frozen=True)
@@ -154,10 +164,13 @@ OnResult = Callable[[FileResult], object]
 
 
 def audit_folder(path: Path, executor: Optional[Executor] = None, *, stable: bool = False,
-                 exhaustive: bool = True, cover: bool = False, on_result: Optional[OnResult] = None) -> FolderReport:
+                 exhaustive: bool = True, cover: bool = False, groups: Optional[Satisfaction] = None,
+                 on_result: Optional[OnResult] = None) -> FolderReport:
     """Audits the elections `NAME.pb` of a folder with `NAME.prices.csv` and `NAME.violation.csv` where these lie beside
     them, and answers the text and the status of `pbaudit folder`, without what that says on standard error of files
-    that it leaves out. `on_result` is called with each FileResult as soon as it is known here.
+    that it leaves out. With `groups`, "cost" or "count", the `groups` of each election's FileResult has the line of
+    `audit_groups` by this measure; the text and the status are as without. `on_result` is called with each FileResult as
+    soon as it is known here.
 
     Without an executor the elections are audited here, one after the other. With one they are its tasks, small
     elections many to a task: processes of a `ProcessPoolExecutor`, or a Dask cluster by `client.get_executor()`, whose
@@ -175,7 +188,7 @@ def audit_folder(path: Path, executor: Optional[Executor] = None, *, stable: boo
     """
     check_executor(executor)
     checked_call("on_result", on_result)
-    entries = entries_of(path, Mode(stable, exhaustive, cover))
+    entries = entries_of(path, Mode(stable, exhaustive, cover), None if groups is None else measured(groups))
 
     def tell(entry: Entry, lines: Optional[List[Line]]) -> None:
         if on_result is not None:
@@ -219,25 +232,53 @@ def audit_entry(entry: Entry) -> List[Line]:
 
 def audit_read(entry: Entry, read: Read) -> List[Line]:
     """The same, where `read` gives the bytes of the file with an ending, or none where it can't be read."""
+    return [_line(ending, answer) for ending, answer in answers_on(entry, read)]
+
+
+def answers_on(entry: Entry, read: Read) -> List[Tuple[str, Answer]]:
+    """The ending of each file of an entry that was audited, with the object that answers: of an election the one on groups,
+    where that was asked for and it has an outcome."""
     election = read(".pb")
     if election is None:
-        return [Line(".pb", UNREAD.format("election"), 2)]
-    found = [_line(".pb", ask(Question("read", election)))]
-    for ending in entry.certificates if found[0].status == 0 else ():
+        return [(".pb", unread_of("election"))]
+    found = [(".pb", _election_answer(entry, election))]
+    for ending in entry.certificates if found[0][1]["kind"] != "refusal" else ():
         certificate = read(ending)
-        answer = ask(Question(CERTIFICATES[ending], election, certificate or b"", mode=entry.mode))
+        answer = ask(Question(CERTIFICATES[ending], election, certificate or b"", mode=entry.mode)).found
         # That the election states no outcome stands before that the certificate can't be read.
-        is_unread = certificate is None and answer.facts.input != "election"
-        found.append(Line(ending, UNREAD.format("certificate"), 2) if is_unread else _line(ending, answer))
+        is_unread = certificate is None and answer.get("input") != "election"
+        found.append((ending, unread_of("certificate") if is_unread else answer))
     return found
 
 
+def _election_answer(entry: Entry, election: bytes) -> Answer:
+    if entry.groups is not None:
+        answer = ask(Question("groups", election, satisfaction=entry.groups)).found
+        if answer["kind"] == "groups":
+            return answer
+    # An election that states no outcome is read all the same.
+    return ask(Question("read", election)).found
+
+
 def _line(ending: str, answer: Answer) -> Line:
-    line, *_ = answer.text.decode("utf-8").split("\n")
-    failing = answer.facts.condition or answer.facts.test
-    if failing is None:
-        return Line(ending, line, answer.status)
-    return Line(ending, line, answer.status, failing.name, failing.voter, failing.project_in(line))
+    if answer["kind"] == "groups":
+        return Line(ending, read_line(answer["election"]), 0, groups=line_of(answer))
+    failed = answer.get("failed") or {}
+    return Line(ending, line_of(answer), STATUSES[answer["answer"]], *map(failed.get, ("name", "voter", "project")))
+
+
+def entry_object(entry: Entry) -> Answer:
+    """What is found of an entry as one object, as `pbaudit folder --json` prints it."""
+    found = {CERTIFICATES.get(ending, "election"): answer for ending, answer in answers_on(entry, partial(bytes_of_entry, entry))}
+    return {"kind": "entry", "name": entry.name, "version": VERSION, "election": None, "prices": None, "violation": None, **found}
+
+
+def total_object(entries: Sequence[Answer]) -> Answer:
+    """The object behind those of all entries: how many there are, and how many files are answered how."""
+    answers = [entry[kind]["answer"] for entry in entries for kind in ("prices", "violation") if entry[kind]]
+    refused = answers.count("refused") + sum(entry["election"]["answer"] == "refused" for entry in entries)
+    return {"kind": "total", "version": VERSION, "elections": len(entries), "yes": answers.count("yes"),
+            "no": answers.count("no"), "refused": refused}
 
 
 def bytes_of_entry(entry: Entry, ending: str) -> Optional[bytes]:
@@ -249,7 +290,7 @@ def bytes_of_entry(entry: Entry, ending: str) -> Optional[bytes]:
         return None
 
 
-def entries_of(path: Path, mode: Mode) -> List[Entry]:
+def entries_of(path: Path, mode: Mode, groups: Optional[Satisfaction] = None) -> List[Entry]:
     """The elections of a folder, by the bytes of their names. Raises OSError as `audit_folder`."""
     folder = os.path.abspath(folder_path(path))
     sizes: Dict[str, int] = {}
@@ -257,13 +298,42 @@ def entries_of(path: Path, mode: Mode) -> List[Entry]:
         for file in listing:
             _check_name(folder, file.name)
             # What can't be looked at counts as a regular file, and is refused when it is read.
-            if file.is_file(follow_symlinks=False) and not re.search(r"[\x00-\x1f\x7f]", file.name):
+            if file.is_file(follow_symlinks=False) and _is_clean(file.name):
                 sizes[file.name] = _size_of(file)
     entries = []
     for name in sorted((name[:-3] for name in sizes if name.endswith(".pb") and name != ".pb"), key=str.encode):
         beside = tuple(ending for ending in CERTIFICATES if name + ending in sizes)
-        entries.append(Entry(folder, name, beside, sum(sizes[name + ending] for ending in (".pb", *beside)), mode))
+        size = sum(sizes[name + ending] for ending in (".pb", *beside))
+        entries.append(Entry(folder, name, beside, size, mode, groups))
     return entries
+
+
+def left_out(path: Path, done: str) -> List[str]:
+    """Lines on what may be meant as an election of a folder and isn't one of `entries_of`, to which this isn't done; and that
+    there is none. Raises OSError."""
+    with os.scandir(folder_path(path)) as listing:
+        found = sorted((file.name, _why_left_out(file)) for file in listing if file.name[-3:].lower() == ".pb" != file.name)
+    lines = []
+    if not any(why == "" for _, why in found):
+        lines.append("pbaudit: no election was found: the folder has no file named NAME.pb")
+    for why in (MISNAMED, IRREGULAR, UNCLEAN):
+        names = [visible(name) for name, other in found if other == why]
+        more = f" and {len(names) - MOST_NAMED} more" if len(names) > MOST_NAMED else ""
+        if names:
+            lines.append(f"pbaudit: not {done}: {', '.join(names[:MOST_NAMED])}{more}; {why}")
+    return lines
+
+
+def _why_left_out(file: "os.DirEntry[str]") -> str:
+    if not file.is_file(follow_symlinks=False):
+        return IRREGULAR
+    if not _is_clean(file.name):
+        return UNCLEAN
+    return "" if file.name.endswith(".pb") else MISNAMED
+
+
+def _is_clean(name: str) -> bool:
+    return not any(letter < " " or letter == "\x7f" for letter in name)
 
 
 def _size_of(file: "os.DirEntry[str]") -> int:
@@ -326,6 +396,18 @@ def _by_executor(executor: Executor, tasks: List[Task], attempt: str, take: Take
             is_usable = False
             break
     left = tasks[len(futures):]
+    try:
+        is_usable &= _taken(futures, left, take)
+    finally:
+        # What is still to be done isn't where this is stopped.
+        for _, future in futures:
+            future.cancel()
+    return left, is_usable
+
+
+def _taken(futures: "List[Tuple[Task, Future[List[List[Line]]]]]", left: List[Task], take: Take) -> bool:
+    """Takes what tasks find, and adds to what is left those whose worker was lost. Whether the executor can still be used."""
+    is_usable = True
     for task, future in futures:
         try:
             made = future.result()
@@ -340,7 +422,7 @@ def _by_executor(executor: Executor, tasks: List[Task], attempt: str, take: Take
             left.append(task.lost())
         else:
             take(task, made)
-    return left, is_usable
+    return is_usable
 
 
 def _named(task: Task) -> str:
@@ -402,21 +484,18 @@ class _Pool:
 
 def report_on(entries: List[Entry], found: Found) -> FolderReport:
     """The report on entries, by what was found of each."""
-    lines, lost = [], []
-    statuses: List[Tuple[bool, int]] = []
-    for entry in entries:
-        if entry not in found:
-            lost.append(entry.name)
-            lines.append(f"{entry.name}.pb: {LOST}")
-        for each in found.get(entry, ()):
-            lines.append(f"{entry.name}{each.ending}: {each.line}")
-            statuses.append((each.ending != ".pb", each.status))
-    yes, no = statuses.count((True, 0)), statuses.count((True, 1))
-    refused = sum(status == 2 for _, status in statuses)
-    lines.append(f"total {len(entries)} elections {yes} yes {no} no {refused} refused")
-    status = 4 if lost else 2 if refused else 1 if no else 0
     results = tuple(result for entry in entries for result in results_of(entry, found.get(entry)))
-    return FolderReport("".join(line + "\n" for line in lines), status, tuple(lost), results)
+    lines = [*(f"{result.file}: {result.line}" for result in results), total_line(results)]
+    lost, answers = tuple(entry.name for entry in entries if entry not in found), {result.answer for result in results}
+    status = 4 if lost else 2 if "refused" in answers else 1 if "no" in answers else 0
+    return FolderReport("".join(line + "\n" for line in lines), status, lost, results)
+
+
+def total_line(results: Sequence[FileResult]) -> str:
+    """The last line of a report: how many elections there are, and how many files are answered how."""
+    elections = sum(result.kind == "election" for result in results)
+    yes, no, refused = (sum(result.answer == answer for result in results) for answer in ("yes", "no", "refused"))
+    return f"total {elections} elections {yes} yes {no} no {refused} refused"
 
 
 def results_of(entry: Entry, lines: Optional[List[Line]]) -> List[FileResult]:
@@ -428,5 +507,5 @@ def results_of(entry: Entry, lines: Optional[List[Line]]) -> List[FileResult]:
         kind = CERTIFICATES.get(each.ending, "election")
         found = ("read" if kind == "election" else "yes", "no", "refused")[each.status]
         results.append(FileResult(entry.name, entry.name + each.ending, kind, found, each.condition, each.voter,
-                                  each.project, each.line))
+                                  each.project, each.line, each.groups))
     return results

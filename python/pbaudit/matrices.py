@@ -71,6 +71,8 @@ def mapping_of(series: Any, what: str) -> Dict[Any, Any]:
 def ballots_in(matrix: Any, ids: Sequence[str]) -> Iterator[Tuple[List[int], List[int]]]:
     """The rising places of the projects that voters approve, which are those of the ones in their rows, and where each
     voter's end; the rest is 0. Raises TypeError and ValueError."""
+    if matrix.dtype.kind not in "biufO":
+        raise TypeError(f"the profile is a matrix of {matrix.dtype.name}, not of 0 and 1: only approvals are audited")
     for first, ends, places, approved in _blocks(matrix, ids, "the profile"):
         is_one = approved == 1
         if not is_one.all():
@@ -177,11 +179,27 @@ def _blocks(matrix: Any, ids: Sequence[str], what: str) -> Iterator[Tuple[int, L
     columns = matrix.shape[1]
     if columns != len(ids):
         raise ValueError(f"{what} has {columns} columns, and the instance has {len(ids)} projects")
+    mask = getattr(matrix, "mask", None)
+    if mask is not None and mask.any():
+        raise TypeError(f"{what} has masked entries, of which nothing is known: fill them in")
     for start in range(0, matrix.shape[0], AT_ONCE):
         block = matrix[start:start + AT_ONCE]
         if getattr(block[0], "ndim", None) != 1:
             raise TypeError(f"{what} is a {type(matrix).__name__}, whose rows aren't arrays: give it as an array of "
                             "numpy")
-        rows, places = block.nonzero()
+        try:
+            rows, places = block.nonzero()
+        except (TypeError, ValueError):
+            voter = start + 1 + next(at for at, row in enumerate(block) if not _has_numbers(row))
+            raise TypeError(f"the row of voter {voter} in {what} has an entry that is no number") from None
         ends = rows.searchsorted(range(1, block.shape[0] + 1)).tolist()
         yield start + 1, ends, places.tolist(), block[rows, places]
+
+
+def _has_numbers(row: Any) -> bool:
+    """Whether each entry is 0 or isn't, which one of pandas that is missing doesn't tell."""
+    try:
+        row.nonzero()
+    except (TypeError, ValueError):
+        return False
+    return True

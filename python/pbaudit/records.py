@@ -1,6 +1,6 @@
 """The records of a file, by the rules of docs/FORMATS.md."""
 import re
-from typing import Iterator, List, Tuple
+from typing import Iterator, List, Optional, Tuple
 
 _BYTE_ORDER_MARKS = re.compile(rb"(?:\xef\xbb\xbf)*")
 _LINE_END = re.compile(rb"\r\n?|\n|\Z")
@@ -13,17 +13,33 @@ _FIELDS = {
 
 def records(data: bytes, separator: bytes) -> Iterator[List[bytes]]:
     """The records of a file that aren't blank, each as its fields without the blanks at their ends."""
+    for _, fields in _placed(data, separator):
+        if any(fields):
+            yield fields
+
+
+def line_of_record(data: bytes, separator: bytes, number: int) -> Optional[int]:
+    """The line on which the record of this number begins, both from 1, or None where there is no such record. Blank records
+    count, and empty lines don't."""
+    counted = 0
+    for position, fields in _placed(data, separator):
+        counted += not (fields == [b""] and data[position:position + 1] in (b"\r", b"\n"))
+        if counted == number:
+            return len(re.findall(rb"\r\n?|\n", data[:position])) + 1
+    return None
+
+
+def _placed(data: bytes, separator: bytes) -> Iterator[Tuple[int, List[bytes]]]:
+    """Where each record and each empty line begins, with its fields without the blanks at their ends."""
     marks = _BYTE_ORDER_MARKS.match(data)
     position = marks.end() if marks else 0
     while position < len(data):
-        plain = _PLAIN_LINE.match(data, position)
+        begin, plain = position, _PLAIN_LINE.match(data, position)
         if plain:
             fields, position = plain[1].split(separator), plain.end()
         else:
             fields, position = _quoted_record(data, position, separator)
-        fields = [field.strip() for field in fields]
-        if any(fields):
-            yield fields
+        yield begin, [field.strip() for field in fields]
 
 
 def _quoted_record(data: bytes, position: int, separator: bytes) -> Tuple[List[bytes], int]:

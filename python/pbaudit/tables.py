@@ -38,9 +38,9 @@ class Result:
 @dataclass(frozen=True)
 class PriceSystem(Result):
     """Prices, with the names that `priceable` of pabutools has for them: the `status`, which is what the auditor says of
-    the prices, as "supported priceable", or of a refutation, as "unpriceable", or else "unknown"; and where there are
-    prices the voter budget, and for each voter what it pays, by the ids of projects. Amounts are exact, in the currency
-    of the costs.
+    the prices, such as "supported priceable", or of a refutation, such as "unpriceable", or otherwise "unknown"; and if
+    there are prices the voter budget, and for each voter what it pays, by the ids of projects. Amounts are exact, in the
+    currency of the costs.
 
     >>> system = find("town.pb").price_system
     >>> system.status, len(system.payment_functions)

@@ -213,7 +213,7 @@ class Payments:
             self.kinds = self._kinds()
         self._is_whole, self._is_own = self.kinds <= {int}, self.kinds <= {int, float, Decimal}
         self._is_rational = all(issubclass(kind, Rational) and not issubclass(kind, bool) for kind in self.kinds)
-        self._is_exact = self.kinds <= {int, Fraction, Decimal}
+        self._is_exact = self.kinds <= {int, Fraction}
 
     def _kinds(self) -> Set[type]:
         """The types of all amounts. Raises TypeError where a function is no mapping."""
@@ -330,7 +330,8 @@ def costs_of(instance: AnyInstance) -> Dict[str, Fraction]:
     """What each project costs, by id and in the instance's order. An instance that is a set, as in pabutools, is put in
     order by the ids."""
     costs: Dict[str, Fraction] = {}
-    projects = listed(instance, "the instance is", "projects with a budget_limit")
+    given = instance.projects if isinstance(instance, Instance) else instance
+    projects = listed(given, "the instance is", "projects with a budget_limit")
     for project in projects if _has_order(instance) else sorted(projects, key=id_of):
         name = id_of(project)
         if not hasattr(project, "cost"):

@@ -10,10 +10,11 @@ from collections.abc import Mapping as AnyMapping
 from fractions import Fraction
 from itertools import chain, repeat, starmap
 from types import MappingProxyType
-from typing import Any, Collection, Iterable, Iterator, List, Literal, Mapping, Optional, Sequence, Sized, Tuple
+from typing import Any, Collection, Iterable, Iterator, List, Mapping, Optional, Sequence, Sized, Tuple
 
+from ._auditor import Satisfaction as Satisfaction, measured
 from .amounts import (
-    MOST_DENOMINATOR, MOST_NUMERATOR, Amount, TooManyDenominators, exact_price, least_multiple, money, own,
+    MOST_DENOMINATOR, MOST_NUMERATOR, Amount, TooManyDenominators, exact_price, least_multiple, money, own, shortly,
 )
 from .files import MOST_BYTES, Path, write_to
 from .values import (
@@ -21,7 +22,6 @@ from .values import (
     listed, once, projects_of, sizes_of,
 )
 
-Satisfaction = Literal["count", "cost"]
 # Whole numbers by projects.
 Weights = Mapping[Any, int]
 # How many of each an election has at most, and how many rows a price certificate.
@@ -90,15 +90,15 @@ def write_violation(voters: Iterable[int], projects: Iterable[AnyProject],
     >>> write_violation([1, 2], ["a"], "cost").split()
     [b'pb-violation,2', b'satisfaction,cost', b'project,a', b'voter,1', b'voter,2']
     """
-    if satisfaction not in (None, "count", "cost"):
-        raise ValueError(f"the satisfaction is {satisfaction!r}, not 'count' or 'cost'")
-    head = [["pb-violation", "1"]] if satisfaction is None else [["pb-violation", "2"], ["satisfaction", satisfaction]]
+    head = [["pb-violation", "1"]]
+    if satisfaction is not None:
+        head = [["pb-violation", "2"], ["satisfaction", measured(satisfaction)]]
     ids = ids_of(projects, "the demand is", "the demand names")
-    group = [_whole(voter, f"the group names voter {voter!r}, which")
+    group = [_whole(voter, "the group names voter")
              for voter in listed(voters, "the group is", "numbers of voters", AnyMapping)]
     for voter in once(group, "the group names voter"):
         if not 1 <= voter <= MOST_VOTERS:
-            raise ValueError(f"the group names voter {voter}, and voters are numbered from 1 to {MOST_VOTERS}")
+            raise ValueError(f"the group names voter {shortly(voter)}, and voters are numbered from 1 to {MOST_VOTERS}")
     rows = [["project", project] for project in ids] + [["voter", str(voter)] for voter in group]
     return write_to(path, _written(head + rows))
 
@@ -124,9 +124,9 @@ def write_refutation(*, least: Weights = MappingProxyType({}), most: Weights = M
 
 
 def _weight(weight: object, what: str) -> int:
-    number = _whole(weight, f"{what} is {weight!r}, which")
+    number = _whole(weight, f"{what} is")
     if not 0 <= number <= MOST_WEIGHT:
-        raise ValueError(f"{what} is {number}, and weights are from 0 to 10^12")
+        raise ValueError(f"{what} is {shortly(number)}, and weights are from 0 to 10^12")
     return number
 
 
@@ -175,7 +175,7 @@ def _check_commas(projects: Projects, ballots: Ballots) -> None:
 def price_file(denominator: int, voter_budget: int, projects: Projects, payers: Payers) -> bytes:
     """A price certificate of numerators over a denominator. What is 0 isn't written."""
     if denominator > MOST_DENOMINATOR:
-        raise TooManyDenominators(f"the amounts' common denominator is {denominator}, and a certificate's is at most "
+        raise TooManyDenominators(f"the amounts' common denominator is {shortly(denominator)}, and a certificate's is at most "
                                   "10^9: price_certificate rounds to a smaller one where the conditions still hold, and of the "
                                   "package's own prices equal_shares with near=True does")
     if voter_budget > MOST_NUMERATOR:
@@ -207,7 +207,7 @@ def _beyond(voters: Sequence[int], names: List[str], numerators: Sequence[int], 
     voter, name, numerator = next(payment for payment in zip(voters, names, numerators)
                                   if not 0 <= payment[2] <= MOST_NUMERATOR)
     if numerator < 0:
-        amount = Fraction(numerator, denominator)
+        amount = shortly(Fraction(numerator, denominator))
         return ValueError(f"voter {voter} pays {amount} for {name}, and a certificate has no payments below 0")
     return ValueError(f"the numerator of what voter {voter} pays for {name} is over 10^21, the most that a certificate "
                       "has")
@@ -250,14 +250,14 @@ class _Lines:
         return data
 
 
-def _whole(value: object, told: str) -> int:
-    """A whole number; what is told of another value goes on."""
+def _whole(value: object, what: str) -> int:
+    """A whole number. A TypeError for another value begins with what that is."""
     try:
         if not isinstance(value, bool):
             return own(value)
     except TypeError:
         pass
-    raise TypeError(f"{told} isn't a whole number")
+    raise TypeError(f"{what} {value!r}, which isn't a whole number")
 
 
 def _at_most(most: int, number: int, what: str) -> None:

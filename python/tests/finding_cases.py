@@ -149,7 +149,23 @@ def best_margin(case, stable=False, covered=True):
     return -found.fun if found.status == 0 else None
 
 
-def is_refutation(case, refutation):
+def gain(signed, left, stable):
+    """U(i), or in the stable form X(i), of a voter who approves funded projects of these weights and unfunded ones that weigh
+    so much together."""
+    if not stable:
+        return max([0] + [weight + left for weight in signed])
+    # It is no more than U(i), and what is asked of it holds of all numbers from the least on.
+    low, high = 0, max([0] + [weight + left for weight in signed])
+    while low < high:
+        middle = (low + high) // 2
+        if sum(max(0, weight + left - middle) for weight in signed) <= min(middle, left):
+            high = middle
+        else:
+            low = middle + 1
+    return low
+
+
+def is_refutation(case, refutation, stable=False):
     """U1 to U3 of what was found, as they are defined."""
     places = {f"p{at}": at for at in range(len(case.costs))}
     roles = {places[name]: role for role in ("least", "most", "left") for name in getattr(refutation, role)}
@@ -161,7 +177,7 @@ def is_refutation(case, refutation):
     spending = supported = 0
     for ballot in case.ballots:
         left = sum(weight.get(at, 0) for at in ballot if at not in case.funded)
-        spending += max([0] + [signed.get(at, 0) + left for at in ballot if at in case.funded])
+        spending += gain([signed.get(at, 0) for at in ballot if at in case.funded], left, stable)
     for at in case.unfunded:
         supported += weight.get(at, 0) * sum(at in ballot for ballot in case.ballots)
     if spending + len(case.ballots) * refutation.cover > supported:

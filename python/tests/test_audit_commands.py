@@ -23,7 +23,12 @@ MORE = (
     "both missing district.prices.csv x", "both district.pb missing missing", "both district.pb district.prices.csv missing",
     "both district.pb district.voter-id.violation.csv missing", "prices school.pb school.prices.csv --no-exhaustive",
     "both school.pb school.prices.csv school.violation.csv --no-exhaustive",
-    "explain school.pb school.prices.csv --no-exhaustive", "folder .", "folder . --stable", "folder missing",
+    "explain school.pb school.prices.csv --no-exhaustive", "explain sample.pb --stable sample.prices.csv",
+    "margins sample.pb --outcome sample.outcome.csv sample.prices.csv", "explain sample.pb --groups",
+    "explain school.pb --groups --satisfaction count", "explain sample.pb --outcome sample.outcome.csv --groups --json",
+    "margins sample.pb --groups", "margins --groups school.pb --satisfaction count", "margins missing --groups",
+    "explain sample.pb --groups --outcome missing", "folder .", "folder . --stable", "folder missing", "folder . --json",
+    "folder . --json --stable --cover", "folder missing --json", "folder . --json --workers 2", "both sample.pb x x --json",
 )
 
 
@@ -32,6 +37,10 @@ def lines():
     text = (EXAMPLES / "answers.txt").read_text(encoding="utf-8")
     found = [shlex.split(line) for line in (*re.findall(r"^pbaudit (.*)$", text, re.MULTILINE), *MORE)]
     return [words for words in found if words[0] in audit_commands.COMMANDS]
+
+
+class GoneOn(BaseException):
+    """That this process has become another program."""
 
 
 class Commands(unittest.TestCase):
@@ -44,26 +53,50 @@ class Commands(unittest.TestCase):
     def test_the_library_alone_answers_as_the_program(self):
         """The text, the status, and what stands beside it for people."""
         with tempfile.TemporaryDirectory() as room:
-            shutil.copytree(pathlib.Path(pbaudit.__file__).parent, f"{room}/pbaudit")
+            shutil.copytree(pathlib.Path(pbaudit.__file__).parent, f"{room}/pbaudit", ignore=shutil.ignore_patterns("bin"))
             shutil.copy(_places.library(), f"{room}/pbaudit/libpbaudit.so.1")
             given = {"PATH": "/usr/bin:/bin", "PYTHONPATH": room, "PYTHONDONTWRITEBYTECODE": "1"}
             for words in lines():
                 with self.subTest(words=words):
+                    # The program has no --workers.
+                    plain = words[:words.index("--workers")] if "--workers" in words else words
                     wanted, done = (
-                        subprocess.run([*command, *words], cwd=EXAMPLES, stdin=subprocess.DEVNULL, capture_output=True,
+                        subprocess.run([*command], cwd=EXAMPLES, stdin=subprocess.DEVNULL, capture_output=True,
                                        check=False, env=given)
-                        for command in ([PROGRAM], [sys.executable, "-m", "pbaudit"]))
+                        for command in ([PROGRAM, *plain], [sys.executable, "-m", "pbaudit", *words]))
                     self.assertEqual((done.returncode, done.stdout), (wanted.returncode, wanted.stdout), done.stderr)
                     if words[0] != "folder":
                         self.assertEqual(done.stderr, wanted.stderr)
         self.assertGreater(len(lines()), 40)
+
+    def test_what_does_not_go_with_groups_is_refused_as_by_the_program(self):
+        """Its reason may be told in other words."""
+        asked = ("explain sample.pb", "margins sample.pb", "explain sample.pb sample.prices.csv --groups",
+                 "margins sample.pb sample.prices.csv --groups", "explain sample.pb --groups --stable",
+                 "explain sample.pb --groups --no-exhaustive", "explain sample.pb --groups --cover",
+                 "margins sample.pb --groups --cover", "explain sample.pb sample.prices.csv --satisfaction cost",
+                 "margins sample.pb sample.prices.csv --satisfaction count", "explain sample.pb --groups --satisfaction Cost",
+                 "explain --groups")
+        with mock.patch.object(command_line, "run_program"), mock.patch.object(sys, "stderr"):
+            for words in map(shlex.split, asked):
+                with self.subTest(words=words):
+                    done = subprocess.run([PROGRAM, *words], cwd=EXAMPLES, capture_output=True, check=False)
+                    with self.assertRaises(SystemExit) as ended:
+                        command_line.main(words)
+                    self.assertEqual((done.returncode, done.stdout, ended.exception.code), (3, b"", 3))
+            for words in (["page", "sample.pb", "-o", "x"], ["page", "sample.pb", "x.csv", "--groups", "-o", "x"],
+                          ["page", "sample.pb", "--groups", "--stable", "-o", "x"],
+                          ["page", "sample.pb", "x.csv", "--satisfaction", "cost", "-o", "x"]):
+                with self.subTest(words=words), self.assertRaises(SystemExit) as ended:
+                    command_line.main(words)
+                self.assertEqual(ended.exception.code, 3)
 
     def test_names_are_shown_as_by_the_program(self):
         """What can't be seen, or moves what stands beside it, is told by its number, by commands of the package too."""
         name = "a\x1b[31m\u202e\nb\u3164"
         shown_name = "a\\u{1b}[31m\\u{202e}\\nb\\u{3164}"
         with tempfile.TemporaryDirectory() as room:
-            shutil.copytree(pathlib.Path(pbaudit.__file__).parent, f"{room}/pbaudit")
+            shutil.copytree(pathlib.Path(pbaudit.__file__).parent, f"{room}/pbaudit", ignore=shutil.ignore_patterns("bin"))
             shutil.copy(_places.library(), f"{room}/pbaudit/libpbaudit.so.1")
             given = {"PATH": "/usr/bin:/bin", "PYTHONPATH": room, "PYTHONDONTWRITEBYTECODE": "1"}
             shutil.copy(EXAMPLES / "sample.prices.csv", f"{room}/{name}")
@@ -86,9 +119,9 @@ class Commands(unittest.TestCase):
 
     def test_the_program_runs_them(self):
         with mock.patch.object(audit_commands, "program", lambda: pathlib.Path("/a/pbaudit")), \
-                mock.patch.object(os, "execv", side_effect=KeyboardInterrupt) as called:
+                mock.patch.object(os, "execv", side_effect=GoneOn) as called:
             for command in audit_commands.COMMANDS:
-                with self.assertRaises(KeyboardInterrupt):
+                with self.assertRaises(GoneOn):
                     command_line.main([command, "--help"])
                 called.assert_called_with("/a/pbaudit", ["/a/pbaudit", command, "--help"])
 
@@ -106,11 +139,12 @@ class Places(unittest.TestCase):
         self.room = pathlib.Path(tempfile.mkdtemp())
         self.addCleanup(shutil.rmtree, self.room)
         self.own = self.room / "pbaudit" / "libpbaudit.so.1"
-        for folder in ("pbaudit", "bin", "scripts", "path"):
+        self.module = self.room / "pbaudit" / "node" / "command.js"
+        for folder in ("pbaudit", "pbaudit/bin", "path"):
             (self.room / folder).mkdir()
-        places = {"_PACKAGE": self.room / "pbaudit", "_OWN": self.own, "_CHECKOUT": self.room / "none"}
+        places = {"_OWN": self.own, "_OWN_PROGRAM": self.room / "pbaudit/bin/pbaudit", "_MODULE": self.module,
+                  "_CHECKOUT": self.room / "none"}
         for patch in (mock.patch.multiple(_places, **places),
-                      mock.patch.object(_places.sysconfig, "get_path", lambda *_: str(self.room / "scripts")),
                       mock.patch.dict(os.environ, {"PATH": str(self.room / "path")})):
             patch.start()
             self.addCleanup(patch.stop)
@@ -126,15 +160,47 @@ class Places(unittest.TestCase):
         self.assertEqual((_places.library(), _places.program()), (None, self.room / "path" / "pbaudit"))
         self.own.write_bytes(b"library")
         self.assertEqual((_places.library(), _places.program()), (self.own, None))
-        for folder in ("scripts", "bin"):
-            path = self.put(folder)
-            self.assertEqual(_places.program(), path)
-
-    def test_a_script_is_not_the_program(self):
-        """That of the wheel for ARM would run itself."""
-        self.own.write_bytes(b"library")
-        self.put("bin", b"#!/usr/bin/python3\n")
+        path = self.put("pbaudit/bin")
+        self.assertEqual(_places.program(), path)
+        # Whoever unpacked it left it as no program.
+        path.chmod(0o644)
         self.assertIsNone(_places.program())
+
+    def test_the_command_that_pip_installs_is_not_the_program(self):
+        """It would call the package again; another script of that name may well be one."""
+        self.put("path", (REPOSITORY / "python/backend/entry.py").read_bytes())
+        self.assertIsNone(_places.program())
+        path = self.put("path", b"#!/bin/sh\nexec /opt/pbaudit\n")
+        self.assertEqual(_places.program(), path)
+
+    def put_node(self, version):
+        self.module.parent.mkdir(exist_ok=True)
+        self.module.write_bytes(b"")
+        node = self.room / "path" / "node"
+        node.write_text(f"#!/bin/sh\necho {version}\n")
+        node.chmod(0o755)
+        return str(node)
+
+    def test_the_wheel_for_any_platform_takes_node(self):
+        """And no command of its name, which would run itself, nor what is built beside it."""
+        self.assertIsNone(_places.module())
+        self.put("path", b"#!/usr/bin/python3\n")
+        for name in ("lib/libpbaudit.so.1", "crates/pbaudit/out/pbaudit"):
+            (self.room / "none" / name).parent.mkdir(parents=True)
+            (self.room / "none" / name).write_bytes(b"")
+        for version in ("v18.0.0", "v20.19.2", "v100.1.0"):
+            node = self.put_node(version)
+            self.assertEqual((_places.library(), _places.program(), _places.module()), (None, None, [node, str(self.module)]))
+
+    def test_without_node_it_says_what_is_missing(self):
+        self.module.parent.mkdir()
+        self.module.write_bytes(b"")
+        with self.assertRaisesRegex(ImportError, "^this is the wheel of pbaudit for any platform, .* no command node on the PATH; "):
+            _places.module()
+        for version, told in (("v16.20.2", "node is v16.20.2; "), ("v9.0.0", "node is v9.0.0; "), ("", "node is none; ")):
+            self.put_node(version)
+            with self.assertRaisesRegex(ImportError, f"{told}install Node, or open pbaudit.html in a browser"):
+                _places.module()
 
     def test_a_checkout(self):
         built = {"lib/libpbaudit.so.1": _places.library, "crates/pbaudit/out/pbaudit": _places.program}

@@ -2,6 +2,7 @@
 import ctypes
 import errno
 import inspect
+import json
 import os
 import pathlib
 import pickle
@@ -13,12 +14,14 @@ from fractions import Fraction
 from unittest import mock
 
 import pbaudit
-from pbaudit import Refusal, _auditor, _places
+from pbaudit import Refusal, _auditor, _places, objects
 
 REPOSITORY = pathlib.Path(__file__).resolve().parents[2]
 EXAMPLES = REPOSITORY / "examples"
 PROGRAM = REPOSITORY / "crates" / "pbaudit" / "out" / "pbaudit"
 AUDITS = ("read", "prices", "violation", "refutation", "both", "explain", "margins", "tidy")
+TABLES = ("margins", "tidy")
+OBJECT = {"answer": "yes", "kind": "prices", "version": 1}
 
 
 def wanted_answers():
@@ -48,18 +51,18 @@ def question_of(words):
 
 class Answers(unittest.TestCase):
     def test_both_answer_as_the_examples_say(self):
-        """The library, and the program, of whose lines is read what the library tells in numbers."""
+        """The library and the program, by the same objects."""
         library, program, told = _auditor._find(), _auditor._Program(str(PROGRAM)), set()
         self.assertIsInstance(library, _auditor._Library)
         for words, text, status in wanted_answers():
             with self.subTest(words=words):
-                answer = library.ask(question_of(words))
+                answer, other = library.ask(question_of(words)), program.ask(question_of(words))
                 self.assertEqual((answer.status, answer.text), (status, text.encode()))
-                self.assertEqual(program.ask(question_of(words)), answer)
-                self.assertEqual(answer.facts == _auditor.Facts(), status == 0)
-                told.add(answer.facts)
-        self.assertLess({_auditor.Facts("violation", 21, 1), _auditor.Facts(test=_auditor.Culprit("V4", 9)),
-                         _auditor.Facts(condition=_auditor.Culprit("S5", project=2))}, told)
+                self.assertEqual((other.status, other.found), (status, answer.found))
+                self.assertEqual((other.text, other.hint is None), (answer.text, status < 2))
+                self.assertEqual(answer.found == {}, words[0] in TABLES and status == 0)
+                told.add((answer.found.get("kind"), (answer.found.get("failed") or {}).get("name")))
+        self.assertLess({("prices", "S5"), ("violation", "V4"), ("refusal", None), ("both", None)}, told)
 
     def test_what_a_yes_says_of_groups(self):
         """The budgets of the school come to less than the limit, and those of the district to more."""
@@ -101,39 +104,60 @@ class Answers(unittest.TestCase):
         verdict = pbaudit.audit_prices(*files, **switches)
         return bool(verdict), verdict.says_of_groups, verdict.says_little
 
-    def test_an_older_program_tells_nothing_of_groups(self):
-        text = b"supported priceable\n\nC1          holds      x\n\nno group: y\n"
-        program = _auditor._Program("pbaudit")
-        with mock.patch.object(program, "_answer", lambda question: (0, text, b"", "")):
-            with self.assertRaisesRegex(RuntimeError, "older"):
-                program.says_of_groups(_auditor.Question("prices", b"", b""))
+    def test_an_older_program(self):
+        """It doesn't know --json, as that of 0.2.0."""
+        with tempfile.TemporaryDirectory() as room:
+            older = pathlib.Path(room, "pbaudit")
+            older.write_text("#!/bin/sh\necho 'error: unexpected argument --json' >&2\nexit 3\n")
+            older.chmod(0o755)
+            with self.assertRaisesRegex(RuntimeError, "status 3 .it may be older than this package.: .*--json"):
+                _auditor._Program(str(older)).ask(_auditor.Question("prices", b"", b""))
 
-    def test_a_library_that_runs_out_of_memory_or_refuses(self):
+    def test_a_library_that_runs_out_of_memory_or_is_older(self):
         library = object.__new__(_auditor._Library)
-        for number, error in ((4, MemoryError), (0, RuntimeError)):
-            library._groups = lambda *words, number=number: number
+        for number, error in ((4, MemoryError), (3, RuntimeError)):
+            library._report = lambda *words, number=number: number
             with self.assertRaises(error):
-                library.says_of_groups(_auditor.Question("prices", b"", b""))
+                library.ask(_auditor.Question("prices", b"", b""))
+
+    def test_a_library_of_another_version(self):
+        """Whose object isn't one of this version, or says another thing than the status: no answer, and no fault of a file."""
+        beside = b'{"hint":null,"notes":[],"refusal":null}\n'
+        other, wrong = dict(OBJECT, version=2), dict(OBJECT, answer="no")
+        for data in (beside + json.dumps(other).encode() + b"\n", beside + json.dumps(wrong).encode() + b"\n", b"{}\n{}\n",
+                     b"supported priceable\n", b"[]\n", b""):
+            def answered(*words, data=data):
+                *_, out, room, needed = words
+                needed._obj.value, out.raw = len(data), data.ljust(room, b"\0")
+                return 0
+            library = object.__new__(_auditor._Library)
+            library._report = answered
+            with self.subTest(data=data), self.assertRaisesRegex(RuntimeError, "^the library is of another version than "):
+                library.ask(_auditor.Question("read", b""))
 
     def test_library_is_asked_once(self):
         """Answers of tidy and margins are about as long as the files."""
-        asked, answer = [], b"x" * 90_000
+        asked, text = [], b"x" * 90_000
+        beside = b'{"hint":null,"notes":["note: x"],"refusal":null}\n'
 
-        def answered(*words):
-            *_, facts, out, room, needed = words
+        def answered(question, *words):
+            *_, out, room, needed = words
             asked.append(room)
+            answer = beside + (b"" if question > 5 else json.dumps(OBJECT).encode() + b"\n") + text
             needed._obj.value = len(answer)
             if room >= len(answer):
                 out.raw = answer.ljust(room, b"\0")
             return 0
         library = object.__new__(_auditor._Library)
-        library._answer = answered
+        library._report = answered
         long, short = bytes(100_000), b""
         for times, *files in ((1, "tidy", short, long), (2, "tidy", long, short), (1, "margins", long, short),
                               (2, "read", long)):
             asked.clear()
             with self.subTest(command=files[0]):
-                self.assertEqual(library.ask(_auditor.Question(*files)), _auditor.Answer(0, answer))
+                report = library.ask(_auditor.Question(*files))
+                self.assertEqual((report.status, report.text, report.notes), (0, text, ("note: x",)))
+                self.assertEqual((report.found, report.hint), ({} if files[0] in TABLES else OBJECT, None))
                 self.assertEqual(len(asked), times)
 
     def test_program_that_ends_otherwise_is_an_error(self):
@@ -155,7 +179,7 @@ class Answers(unittest.TestCase):
                 with self.assertRaisesRegex(ImportError, "libpbaudit.so can't be used: .*pbaudit-library"):
                     _auditor._find()
                 with mock.patch.object(ctypes, "CDLL", lambda path: object()):
-                    with self.assertRaisesRegex(ImportError, "no attribute 'pbaudit_answer'.*pbaudit-library"):
+                    with self.assertRaisesRegex(ImportError, "no attribute 'pbaudit_report'.*pbaudit-library"):
                         _auditor._find()
 
     def test_without_either_it_says_how_to_build(self):
@@ -270,15 +294,33 @@ class Audits(unittest.TestCase):
             pbaudit.explain(*reversed(files[:2]))
 
     def test_what_is_explained_of_groups(self):
-        """Behind the table of a yes, and apart from it."""
-        text = b"supported priceable\n\nC1          holds      x\n\ntake any voters: y\nnearest to that comes z\n"
-        library = mock.Mock(ask=lambda question: _auditor.Answer(0, text), says_of_groups=lambda question: "weak")
-        with mock.patch.object(_auditor, "_found", library):
+        """Behind the table of a yes, and apart from it: a line for each condition stands between two empty ones."""
+        text = b"supported priceable\n\nany line\n\ntake any voters: y\nnearest to that comes z\n"
+        sums = {"amount": "2500000", "bound": "3000000", "project": None, "voter": None}
+        condition = {"asked": False, "culprits": 1, "first": None, "holds": False, "name": "Cover", "shown": sums}
+        found = {**OBJECT, "conditions": [condition], "failed": None, "grains_per_unit": 10**6, "groups": "weak",
+                 "mode": {"stable": False}}
+        report = _auditor.Report(0, found, lambda: text)
+        with mock.patch.object(_auditor, "_found", mock.Mock(ask=lambda question: report)):
             told = pbaudit.explain(b"", b"")
-        self.assertEqual([(found.name, found.state, found.sentence) for found in told.findings], [("C1", "holds", "x")])
+        sentence = "with --cover it fails: all voter budgets come to 2.50 together; the limit is 3.00"
+        self.assertEqual(told.findings, (pbaudit.Finding("Cover", "not asked", sentence),))
         self.assertEqual(told.groups, ("take any voters: y", "nearest to that comes z"))
         self.assertEqual(told.verdict.says_of_groups, "weak")
         self.assertEqual(str(told), text.decode())
+
+    def test_sentences_are_those_of_the_table(self):
+        """Of all kinds of certificates, in the plain form and in another. The program pads names and states to columns."""
+        for names in (("district", "prices"), ("district", "short.prices"), ("school", "prices"), ("school", "refutation"),
+                      ("district", "violation"), ("hall", "violation")):
+            files = [EXAMPLES / f"{names[0]}.{end}" for end in ("pb", f"{names[1]}.csv")]
+            for mode in ({}, {"stable": True, "exhaustive": False, "cover": True}):
+                with self.subTest(names=names, mode=mode):
+                    told = pbaudit.explain(*files, **mode)
+                    rows = [f"{each.name:12}{each.state:11}{each.sentence}" for each in told.findings]
+                    parts = [str(told.verdict), "\n".join(rows), *(["\n".join(told.groups)] if told.groups else [])]
+                    self.assertEqual(str(told), "\n\n".join(parts) + "\n")
+                    self.assertEqual(bool(told.groups), bool(told) and names[1].endswith("prices"))
 
     def test_tidy(self):
         untidy = EXAMPLES / "sample.untidy.prices.csv"
@@ -322,7 +364,8 @@ class Audits(unittest.TestCase):
                     self.assertEqual((refusal.file, refusal.line), (name, line))
                     self.assertIn(word, refusal.reason)
                     self.assertIn(f"\n{name}:{line}: ", str(refusal))
-        with mock.patch.object(_auditor, "_found", mock.Mock(wraps=_auditor._find(), hint=lambda *_: None)):
+        found = objects.refusal_of("election", 2, "NoMeta", 1)
+        with mock.patch.object(_auditor, "_found", mock.Mock(ask=lambda _: _auditor.Report(2, found, lambda: b""))):
             with self.assertRaises(Refusal) as caught:
                 pbaudit.read(b"MET")
             self.assertEqual((caught.exception.line, caught.exception.reason), (None, None))
@@ -331,34 +374,35 @@ class Audits(unittest.TestCase):
     def test_a_sentence_ends_at_a_line_feed_alone(self):
         """So that an id in it forges no line."""
         odd = "'x\u2028a.pb:9: y\u2029\u0085z\r\x1c\x0b\x0c'"
-        refusal = Refusal("refused election 9 DuplicateProject record 5", "a.pb", 5, f"one {odd}\nline 7: other {odd}")
-        self.assertEqual(refusal.sentences(), [f"a.pb:5: one {odd}", f"a.pb:7: other {odd}"])
-        program, room = _auditor._Program("pbaudit"), "/tmp/pbaudit-room"
-        told = f"{room}/election.pb:5: one {odd}\n{room}/election.pb:7: other {odd}\n".encode()
-        with mock.patch.object(program, "_answer", lambda question: (2, b"", told, room)):
-            found = program.hint(_auditor.Question("read", b""), _auditor.Facts("election", 9, 5))
-        self.assertEqual((found.line, found.sentences), (5, f"one {odd}\nline 7: other {odd}"))
+        found, sentences = objects.refusal_of("election", 9, "DuplicateProject", 5), (f"one {odd}", f"line 7: other {odd}")
+        refusal = Refusal(found, "a.pb", _auditor.Hint(5, sentences))
+        self.assertEqual(refusal.sentences(), [f"a.pb:5: one {odd}", f"a.pb: line 7: other {odd}"])
+        self.assertEqual(refusal.reason, "\n".join(sentences))
+        program = _auditor._Program("pbaudit")
+        sentences = f"election:5: one {odd}", f"election:7: other {odd}"
+        answer = 2, objects.text_of_object(found).encode(), "".join(f"{each}\n" for each in sentences).encode()
+        with mock.patch.object(program, "_answer", lambda *_: answer):
+            hint = program.ask(_auditor.Question("read", b"META\n\n;\r1\r\n\n2\n3")).hint
+        self.assertEqual(hint, _auditor.Hint(7, sentences, names_file=True))
+        self.assertEqual(Refusal(found, "a.pb", hint).sentences(), [*sentences])
 
     def test_an_answer_that_is_none(self):
-        """A line that isn't one of a yes or a no, and one that doesn't go with its status or with its facts."""
-        sample, prices, claim = b"", b"pb-prices,1\n", b"pb-violation,1\n"
-        yes, no = "supported priceable", "failed C3 project b"
-        for status, told, ask in (
-            *((status, told, lambda: pbaudit.audit_prices(sample, prices))
-              for status, told in ((1, yes), (0, no), (0, ""), (0, "supported"), (0, f"x {yes}"), (1, "fail"),
-                                   (0, "fault"), (1, "failed C3 voter 1 project b"))),
-            *((status, told, lambda: pbaudit.audit_violation(sample, claim))
-              for status, told in ((1, "violation"), (0, "failed V4"), (1, ""), (0, "violations"))),
-            *((status, told, lambda: pbaudit.explain(sample, prices))
-              for status, told in ((1, yes), (0, no), (0, "ok"))),
-            *((status, told, lambda: pbaudit.audit_both(sample, prices, claim)) for status, told in (
-                (1, f"{yes}\nviolation"), (0, f"{yes}\nfailed V4"), (0, f"{no}\nviolation"), (0, f"{yes}\n{no} x\ny"))),
-        ):
-            for culprits in ({}, {"condition": _auditor.Culprit("C3", project=2)}, {"test": _auditor.Culprit("V4")}):
-                answer = _auditor.Answer(status, f"{told}\n".encode(), _auditor.Facts(**culprits))
-                with self.subTest(answer=answer), mock.patch.object(_auditor, "_found", mock.Mock(ask=lambda _: answer)):
-                    with self.assertRaisesRegex(RuntimeError, "^pbaudit answers "):
-                        ask()
+        """A line that isn't an object, one of another version of these, and one that doesn't go with its status."""
+        yes, no = json.dumps(OBJECT), json.dumps({**OBJECT, "answer": "no"})
+        for status, line in ((1, yes), (2, yes), (0, no), (0, ""), (0, "supported priceable"), (0, f"x {yes}"), (0, "{}"),
+                             (0, "[]"), (0, yes + yes), (0, json.dumps({**OBJECT, "version": 2})), (1, "failed C3 project b")):
+            program = _auditor._Program("pbaudit")
+            with self.subTest(line=line), mock.patch.object(program, "_answer", lambda *_: (status, f"{line}\n".encode(), b"")):
+                with self.assertRaisesRegex(RuntimeError, "^pbaudit answers "):
+                    program.ask(_auditor.Question("prices", b"", b""))
+
+    def test_a_table_that_is_refused_alone(self):
+        """A program that refuses a file for one question and not for another."""
+        program = _auditor._Program("pbaudit")
+        answers = {"margins": (2, b"refused\n", b""), "prices": (0, json.dumps(OBJECT).encode(), b"")}
+        with mock.patch.object(program, "_answer", lambda question, *_: answers[question.command]):
+            with self.assertRaisesRegex(RuntimeError, "^pbaudit refuses a file for margins, and none for prices$"):
+                program.ask(_auditor.Question("margins", b"", b""))
 
     def test_bytes_that_look_like_a_path(self):
         prices = EXAMPLES / "sample.prices.csv"
@@ -413,10 +457,11 @@ class Audits(unittest.TestCase):
         with tempfile.TemporaryDirectory() as room:
             given = {
                 pbaudit.audit_prices: files, pbaudit.explain: files, pbaudit.page: files, pbaudit.write_page: files,
-                pbaudit.audit_both: (*files, files[1]), pbaudit.audit_folder: (room,),
+                pbaudit.audit_both: (*files, files[1]), pbaudit.audit_refutation: files, pbaudit.audit_folder: (room,),
                 pbaudit.write_folder_pages: (room, room), pbaudit.validate_price_system: values,
                 pbaudit.price_certificate: values, pbaudit.equal_shares: values[:2], pbaudit.find: files[:1],
-                pbaudit.find_folder: (room,),
+                pbaudit.find_folder: (room,), pbaudit.smallest_relaxation: values[:3],
+                pbaudit.largest_voter_budget: values[:3],
             }
             told = set()
             for function, words in given.items():
@@ -430,7 +475,7 @@ class Audits(unittest.TestCase):
                                 self.assertEqual(str(caught.exception), f"{name} is {value!r}, not True or False")
             self.assertEqual(os.listdir(room), [])
         self.assertEqual(told, {"stable", "exhaustive", "cover", "near", "verbose", "prices", "refutation", "violation",
-                                "replace"})
+                                "replace", "resume"})
         others = {name for name in pbaudit.__all__ if inspect.isfunction(getattr(pbaudit, name))} - {
             function.__name__ for function in given}
         for name in others:

@@ -204,14 +204,17 @@ class Roundings(unittest.TestCase):
                 price_certificate(SAMPLE, ballots, [], -4, payments, exhaustive=False)
 
     def test_amounts_beyond_those_of_a_certificate(self):
-        for amount in (10**21 + 1, 10**400, -10**400, Fraction(10**400), Fraction(10**5000, 3), 1e300):
+        for amount in (10**21 + 1, 10**400, -10**400, Fraction(10**400), Fraction(10**3000, 3), 1e300):
             with self.assertRaisesRegex(ValueError, "^the voter budget isn't from 0 to 10.21, "):
                 price_certificate(SAMPLE, PROFILE, [A, B], amount, [{A: 2, B: 2}, {A: 4}, {B: 2}])
             with self.assertRaisesRegex(ValueError, "^what voter 2 pays for a isn't from 0 to 10.21, "):
                 price_certificate(SAMPLE, PROFILE, [A, B], 4, [{A: 2, B: 2}, {A: amount}, {B: 2}])
-        for cost, limit, told in ((10**400, 10, "the cost of d"), (1, 10**400, "the budget limit")):
-            with self.assertRaisesRegex(ValueError, f"^{told} is 10+, and an election's amounts are from 0 to 10.12"):
-                price_certificate(Instance([Project("d", cost)], limit), [["d"]], [], 4, [{}])
+        with self.assertRaisesRegex(ValueError, "^the voter budget is a number of more than 4000 digits, which isn't an amount$"):
+            price_certificate(SAMPLE, PROFILE, [A, B], Fraction(10**5000, 3), [{A: 2, B: 2}, {A: 4}, {B: 2}])
+        for amount, shown in ((10**13, "10{13}"), (10**400, "a number of more than 60 digits")):
+            for cost, limit, told in ((amount, 10, "the cost of d"), (1, amount, "the budget limit")):
+                with self.assertRaisesRegex(ValueError, f"^{told} is {shown}, and an election's amounts are from 0 to 10.12"):
+                    price_certificate(Instance([Project("d", cost)], limit), [["d"]], [], 4, [{}])
 
     def test_costs_are_those_of_a_file(self):
         """The check takes others too."""

@@ -88,6 +88,12 @@ class Library(unittest.TestCase):
         self.assertIn(f"\nprints `{out.getvalue().rstrip()}`. Their share",
                       (REPOSITORY / "docs" / "LIBRARY.md").read_text(encoding="utf-8"))
 
+    def test_groups(self):
+        values = {"Instance": pbaudit.Instance, "Project": pbaudit.Project}
+        with in_folder(REPOSITORY), contextlib.redirect_stdout(io.StringIO()) as out:
+            exec(block("from pbaudit import audit_groups"), values)
+        self.assertEqual(out.getvalue(), block("y (1, 2, 3) 9 8"))
+
     def test_verifying_files(self):
         """An answer, a no, and a file of another kind, with what they print."""
         with in_folder(REPOSITORY), contextlib.redirect_stdout(io.StringIO()) as out:
@@ -95,7 +101,7 @@ class Library(unittest.TestCase):
         self.assertEqual(out.getvalue(), block("True supported priceable"))
 
     def test_equal_shares(self):
-        _, _, _, command, election, *words = block("~/pbaudit/bin/python -m pbaudit equal-shares").split()
+        _, command, election, *words = block("~/pbaudit/bin/pbaudit equal-shares").split()
         given = {**os.environ, "PYTHONPATH": os.pathsep.join(filter(None, sys.path))}
         done = subprocess.run([sys.executable, "-m", "pbaudit", command, REPOSITORY / election, *words], cwd=self.room,
                               capture_output=True, text=True, env=given, check=False)
@@ -105,16 +111,20 @@ class Library(unittest.TestCase):
 
 class C(unittest.TestCase):
     def test_the_functions(self):
-        """The table has the exports of the header but the one that is shown, with their arguments in order but for lengths,
-        facts and the last three; and ahead of them the functions over that one, by the first."""
+        """The table has all exports of the header but the one that is shown, and some of the functions over that one: each with
+        its arguments in order but for lengths, facts and the last three."""
         header = (REPOSITORY / "include" / "pbaudit.h").read_text(encoding="utf-8")
+        declared = re.findall(r"uint8_t (pbaudit_\w+)\(([^)]*)\)(;?)", header)
         owed = {name: [word for word in re.findall(r"(\w+)(?:,|$)", words)
                        if not word.endswith("_length") and word not in ("facts", "out", "room", "needed")]
-                for name, words in re.findall(r"uint8_t (pbaudit_\w+)\(([^)]*)\);", header) if name != "pbaudit_answer"}
+                for name, words, _ in declared}
         table = (REPOSITORY / "docs" / "LIBRARY.md").read_text(encoding="utf-8").split("## From C\n")[1]
         told = {name: re.findall(r"`(\w+)`", words)
-                for name, words in re.findall(r"^\| `(pbaudit_\w+)`.*? \| (.*) \|$", table, re.MULTILINE)}
-        self.assertEqual(told, {"pbaudit_prices": [], **owed})
+                for names, words in re.findall(r"^\| (`pbaudit_.*?) \| (.*) \|$", table, re.MULTILINE)
+                for name in re.findall(r"`(pbaudit_\w+)`", names)}
+        self.assertEqual(told.pop("pbaudit_prices"), [])
+        self.assertEqual(told, {name: owed.get(name) for name in told})
+        self.assertEqual({name for name, _, end in declared if end} - {*told}, {"pbaudit_answer"})
 
     def test_a_call(self):
         """With the prototype that is shown, which a compiler refuses where it isn't that of the header."""

@@ -19,6 +19,8 @@ PROGRAM = REPOSITORY / "crates" / "pbaudit" / "out" / "pbaudit"
 ELECTIONS = int(os.environ.get("PBAUDIT_ELECTIONS", "300"))
 FEWER = ELECTIONS // 5
 HAS_SCIPY = unittest.skipUnless(importlib.util.find_spec("scipy"), "scipy isn't installed")
+if importlib.util.find_spec("scipy"):
+    from pbaudit.finding import prices, search
 # Below this, what is left to spare may be lost by rounding.
 SPARE = 1e-4
 
@@ -31,8 +33,8 @@ def audits(file, found):
                                    cover=prices.cover).line
         yield from by_program(file, prices.file, "prices", *prices.options)
     if found.refutation:
-        yield pbaudit.audit_refutation(file, found.refutation.file).line
-        yield from by_program(file, found.refutation.file, "refutation")
+        yield pbaudit.audit_refutation(file, found.refutation.file, stable=found.refutation.stable).line
+        yield from by_program(file, found.refutation.file, "refutation", *found.refutation.options)
     for violation in found.violations:
         yield pbaudit.audit_violation(file, violation.file).line
         yield from by_program(file, violation.file, "violation")
@@ -55,9 +57,12 @@ NO_WATER = mock.patch("pbaudit.finding.prices.by_water", lambda *_: (None, []))
 
 
 @contextlib.contextmanager
-def all_by_cuts():
-    """Has all be found by cuts, whatever they suit, and yields the mock of the programme for prices."""
-    with mock.patch("pbaudit.finding.cuts.MANY", 0), mock.patch("pbaudit.finding.prices.by_programme") as programme:
+def all_by_steps():
+    """Has all be found by the interior-point method, whatever it suits, and yields the programme for prices, which is asked where
+    the method gets stuck."""
+    from pbaudit.finding.programme import by_programme
+    with mock.patch.multiple("pbaudit.finding.deciding", MANY=0, MANY_STABLE=0), \
+            mock.patch("pbaudit.finding.prices.by_programme", wraps=by_programme) as programme:
         yield programme
 
 
@@ -160,12 +165,13 @@ class Invented(unittest.TestCase):
                 tally[bool(found.prices)] += 1
         self.assertGreater(min(tally.values()), FEWER // 30, tally)
 
-    def test_by_cuts_alone(self):
-        """Also of few ballots; and beside what a dense programme has, prices are found or a refutation."""
-        tally = {True: 0, False: 0}
+    def test_by_steps_alone(self):
+        """Also of few ballots; and beside what a dense programme has, prices are found or a refutation. Mostly the method doesn't get
+        stuck."""
+        tally, stuck = {True: 0, False: 0}, 0
         for case in (case for seed in range(FEWER // 4) for case in cases(seed, ((10, 5), (20, 10), (30, 12)))):
             for cover in (False, True):
-                with self.subTest(case=case.name, cover=cover), NO_WATER, all_by_cuts() as programme:
+                with self.subTest(case=case.name, cover=cover), NO_WATER, all_by_steps() as programme:
                     file = case.file()
                     found = pbaudit.find(file, violation=False, cover=cover)
                     for line in audits(file, found):
@@ -173,24 +179,45 @@ class Invented(unittest.TestCase):
                     self.check_prices(case, found, cover)
                     self.assertNotEqual(found.prices is None, found.refutation is None)
                     self.assertTrue(found.refutation is None or is_refutation(case, found.refutation))
-                    programme.assert_not_called()
+                    stuck += programme.called
                     tally[bool(found.prices)] += 1
         self.assertGreater(min(tally.values()), FEWER // 30, tally)
+        self.assertLess(stuck, sum(tally.values()) / 4)
 
     def test_stable(self):
-        tally = {True: 0, False: 0}
+        """There are stable prices or a refutation, just as a dense programme has some; and what refutes all prices is found
+        where there are no plain ones."""
+        tally = {"supported stable": 0, "unpriceable": 0, "unpriceable stable": 0}
         for case in (case for seed in range(FEWER // 3) for case in cases(seed, ((10, 5), (20, 10), (30, 12)))):
             with self.subTest(case=case.name):
                 file = case.file()
                 found = pbaudit.find(file, stable=True, violation=False)
-                for line in audits(file, found):
-                    self.assertIn(line, ("supported stable", "unpriceable"))
-                margin = best_margin(case, stable=True, covered=False)
+                lines = list(audits(file, found))
+                self.assertEqual(len({*lines}), 1)
+                self.assertNotEqual(found.prices is None, found.refutation is None)
+                margin, plain = (best_margin(case, stable=each, covered=False) for each in (True, False))
                 if margin is not None and abs(margin) > SPARE:
                     self.assertEqual(found.prices is not None, margin > 0, margin)
-                self.assertFalse(found.prices and found.refutation)
-                tally[bool(found.prices)] += 1
-        self.assertGreater(min(tally.values()), FEWER // 10, tally)
+                if found.refutation and plain is not None and abs(plain) > SPARE:
+                    self.assertEqual(found.refutation.stable, plain > 0)
+                self.assertTrue(found.refutation is None or is_refutation(case, found.refutation, found.refutation.stable))
+                tally[lines[0]] += 1
+        self.assertGreater(min(tally.values()), FEWER // 30, tally)
+
+    def test_an_answer_in_all_forms(self):
+        """Plain and stable, with Cover and without."""
+        lines = set()
+        for case in (case for seed in range(FEWER // 12) for case in cases(seed, ((10, 10), (30, 20), (100, 20)))):
+            for stable, cover in ((False, True), (True, False), (True, True)):
+                with self.subTest(case=case.name, stable=stable, cover=cover):
+                    found = pbaudit.find(case.file(), stable=stable, cover=cover, violation=False)
+                    self.assertNotEqual(found.prices is None, found.refutation is None)
+                    if found.refutation:
+                        lines.add(found.refutation.verdict.line)
+                        self.assertTrue(is_refutation(case, found.refutation, found.refutation.stable))
+                        self.assertTrue(stable or not found.refutation.stable)
+                        self.assertTrue(cover or not found.refutation.cover)
+        self.assertLessEqual({"unpriceable", "unpriceable stable"}, lines)
 
     def test_violations_are_the_smallest(self):
         """As by trying all demands, for both measures: as few projects, and as large a share over their cost."""
@@ -219,7 +246,7 @@ class Invented(unittest.TestCase):
         texts = [text for text, _ in told]
         for form in ("prices with Cover", "prices"):
             self.assertIn(f"{form}: water-filling, round 2 of at most 60", texts)
-        last = f"(?m)^refutation: linear programme over [0-9]+ of {len(case.unfunded)} unfunded projects$"
+        last = f"(?m)^refutation of prices: linear programme over [0-9]+ of {len(case.unfunded)} unfunded projects$"
         self.assertRegex("\n".join(texts), last)
         left = [seconds for _, seconds in told]
         self.assertEqual(left, sorted(left, reverse=True))
@@ -253,6 +280,15 @@ class Edges(unittest.TestCase):
         self.assertEqual(found.refutation.least, {"p0": 1})
         self.assertIn("p0 is funded, it costs something, and nobody approves it", str(found))
         self.assertIsNotNone(self.find([0], 3, [], [0]).prices)
+
+    def test_that_nobody_pays_is_the_auditors(self):
+        """Also where no refutation is looked for: a search that were wrong about it would tell nothing."""
+        nobody, all_of_it = Case("nobody", [4, 2], 10, [[1]], [0]), Case("all", [4, 7], 10, [[0, 1]], [0])
+        for asked in ({"refutation": False}, {}):
+            self.assertIn("p0 is funded, it costs something, and nobody approves it", str(pbaudit.find(nobody.file(), **asked)))
+        with mock.patch.object(search, "unpaid", return_value=0), mock.patch.object(prices, "unpaid", return_value=0), \
+                self.assertRaisesRegex(RuntimeError, "^that nobody can pay for p0 is answered 'failed U2'$"):
+            pbaudit.find(all_of_it.file(), refutation=False, violation=False)
 
     def test_nothing(self):
         for ballots in ([], [[]], [[], []]):

@@ -105,7 +105,9 @@ class Found(Commands):
         self.assertEqual(done.stderr, "")
         prices, by_count, by_cost = (str(self.room / f"my town{ending}") for ending in (
             ".prices.csv", ".violation.csv", ".cost.violation.csv"))
-        lines = done.stdout.splitlines()
+        groups, check, *lines = done.stdout.splitlines()
+        self.assertEqual((groups, check), (f"{town}: {found.groups}", f"  check it with: pbaudit groups '{town}'"))
+        self.assertEqual(str(found.groups), str(pbaudit.audit_groups(town)))
         self.assertEqual(lines[::2][:3], [f"{prices}: supported priceable", f"{by_count}: violation",
                                           f"{by_cost}: violation"])
         self.assertEqual(lines[6:], found.sentences)
@@ -115,7 +117,7 @@ class Found(Commands):
         self.assertEqual(files, {"my town.prices.csv": found.prices.file, "my town.violation.csv":
                                  found.violations[0].file, "my town.cost.violation.csv": found.violations[1].file})
         for line, path in zip(lines[1:6:2], (prices, by_count, by_cost)):
-            words = shlex.split(line.partition("check it by: ")[2])
+            words = shlex.split(line.partition("check it with: ")[2])
             self.assertEqual(words[0:1] + words[2:4], ["pbaudit", str(town), path])
             if PROGRAM.exists():
                 subprocess.run([PROGRAM, *words[1:]], check=True, stdout=subprocess.DEVNULL)
@@ -145,7 +147,7 @@ class Found(Commands):
                          "none. It computes in rounded numbers, so that this is no proof.")
         self.assertFalse((self.room / "out").exists())
         done = self.run_find(town, "--refutation", "--output", "out", status=1)
-        self.assertEqual(len(done.stdout.splitlines()), 1)
+        self.assertEqual(len(done.stdout.splitlines()), 3)
         self.assertIn("No refutation was found: ", done.stdout)
 
     def test_a_refutation(self):
@@ -155,8 +157,8 @@ class Found(Commands):
             town = self.put("town.pb", case)
             done = self.run_find(town, *words, "--output", "out")
             path = f"out{os.sep}town.refutation.csv"
-            self.assertEqual(done.stdout.splitlines()[:2], [
-                f"{path}: {line}", f"  check it by: pbaudit refutation {town} {path}"])
+            self.assertEqual(done.stdout.splitlines()[2:4], [
+                f"{path}: {line}", f"  check it with: pbaudit refutation {town} {path}"])
             self.assertTrue(pbaudit.audit_refutation(town, self.room / path))
             self.assertFalse((self.room / "out" / "town.prices.csv").exists())
             if PROGRAM.exists():
@@ -174,10 +176,13 @@ class Found(Commands):
                              "out")
         self.assertEqual(sorted(self.files("out")), ["district.cost.violation.csv", "district.refutation.csv",
                                                      "district.violation.csv"])
-        for line in re.findall("check it by: pbaudit (.*)", done.stdout):
+        self.assertRegex(done.stdout, "^.*district.pb: failed EJR[+] by cost voters ")
+        for line in re.findall("check it with: pbaudit (.*)", done.stdout):
             self.assertIn("--outcome", line)
             if PROGRAM.exists():
-                subprocess.run([PROGRAM, *shlex.split(line)], check=True, stdout=subprocess.DEVNULL, cwd=self.room)
+                words = [PROGRAM, *shlex.split(line)]
+                checked = subprocess.run(words, check=False, stdout=subprocess.DEVNULL, cwd=self.room)
+                self.assertEqual(checked.returncode, int(words[1] == "groups"))
 
     def test_where_files_lie(self):
         """Beside the election; but where that is no regular file, in the current folder."""
@@ -187,7 +192,7 @@ class Found(Commands):
         self.assertEqual(sorted(self.files("towns")), ["town.pb", "town.prices.csv"])
         done = subprocess.run(words_of("/dev/stdin", "--prices"), input=TIE.file(), cwd=self.room, capture_output=True,
                               check=True)
-        self.assertEqual(done.stdout.splitlines()[0], b"stdin.prices.csv: supported priceable")
+        self.assertEqual(done.stdout.splitlines()[2], b"stdin.prices.csv: supported priceable")
         self.assertEqual(list(self.files()), ["stdin.prices.csv"])
 
     def test_nothing_found(self):
@@ -237,6 +242,28 @@ class Found(Commands):
         writing.write_new(str(path), b"mine", replace=True)
         self.assertEqual(path.read_bytes(), b"mine")
 
+    def test_a_folder_that_takes_no_files(self):
+        """It is told before anything is looked for, but behind what is wrong with a file."""
+        town = self.put("town.pb", ENDLESS)
+        for folder in (town, town / "within"):
+            for words in (("town.pb",), ("--folder", ".")):
+                done = self.run_find(*words, "--time", "100000", "--output", folder, status=4)
+                self.assertEqual((done.stdout, done.stderr),
+                                 ("", f"fault write: {town}: Not a directory; --output writes elsewhere\n"))
+            with self.assertRaisesRegex(NotADirectoryError, "Not a directory: '.*/town.pb'$"):
+                pbaudit.find_folder(self.room, output=folder, seconds=10**6)
+        done = self.run_find("missing.pb", "--output", town, status=2)
+        self.assertEqual(done.stdout, "refused election 18 Read record 0\n")
+        with mock.patch.object(os, "access", return_value=False), self.assertRaisesRegex(OSError, "Permission denied"):
+            writing.check_folder(str(self.room / "new" / "folder"))
+        writing.check_folder(str(self.room / "new" / "folder"))
+        writing.check_folder("")
+
+    def test_a_time_that_is_none(self):
+        for word in ("0", "-1", "x", "nan", "1e8", ""):
+            done = self.run_find("town.pb", f"--time={word}", status=3)
+            self.assertIn(f"--time: {word!r} isn't a number of seconds above 0 and up to 10^7\n", done.stderr)
+
     def test_its_own_files_arent_replaced(self):
         town, outcome = self.put("town.pb", TIE), self.put("town.violation.csv", b"pb-outcome,1\nproject,p1\n")
         done = self.run_find(town, "--outcome", outcome, "--replace", status=3)
@@ -244,12 +271,23 @@ class Found(Commands):
         self.assertEqual(self.files()["town.violation.csv"], b"pb-outcome,1\nproject,p1\n")
 
     def test_it_cant_be_written(self):
+        """What else was found is written all the same."""
         town = self.put("town.pb", TIE)
-        done = self.run_find(town, "--output", town, status=4)
-        self.assertIn("fault write: ", done.stderr)
+        os.mkdir(self.room / "town.prices.csv")
+        fault = "fault write: town.prices.csv: Is a directory"
+        done = self.run_find("town.pb", "--replace", status=4)
+        self.assertEqual(done.stderr, f"{fault}\n")
         self.assertIn("There are prices that support this outcome.", done.stdout)
+        written = {"town.violation.csv", "town.cost.violation.csv"}
+        self.assertEqual(self.files().keys(), {"town.pb", *written})
+        for name in written:
+            os.unlink(self.room / name)
+        done = self.run_find("--folder", ".", "--replace", status=4)
+        self.assertEqual((done.stderr, self.files().keys()), (f"{fault.replace('town', './town')}\n", {"town.pb", "found.csv", *written}))
+        self.assertIn(fault.replace("town", "./town"), self.files()["found.csv"].decode())
+        os.rmdir(self.room / "town.prices.csv")
         with open("/dev/full", "w") as full:
-            done = subprocess.run(words_of(town), stdout=full, stderr=subprocess.PIPE, text=True, check=False)
+            done = subprocess.run(words_of(town, "--replace"), stdout=full, stderr=subprocess.PIPE, text=True, check=False)
         self.assertEqual(done.returncode, 4)
         self.assertIn("fault write: ", done.stderr)
 
@@ -291,7 +329,8 @@ class Found(Commands):
         """Where no pbaudit is on the PATH, the command that is told is that of the package, and works."""
         town = self.put("my town.pb", TIE)
         done = self.run_find(town, "--prices", env=without_pbaudit())
-        told = re.search("check it by: (.*)", done.stdout)[1]
+        groups, told = re.findall("check it with: (.*)", done.stdout)
+        self.assertEqual(shlex.split(groups), [sys.executable, "-m", "pbaudit", "groups", str(town)])
         self.assertEqual(shlex.split(told)[:5], [sys.executable, "-m", "pbaudit", "prices", str(town)])
         checked = subprocess.run(["sh", "-c", told], capture_output=True, cwd=self.room, env=without_pbaudit(), check=False)
         self.assertEqual((checked.returncode, checked.stdout), (0, b"supported priceable\n"), checked.stderr)
@@ -301,17 +340,17 @@ class Found(Commands):
         name = "a\x1b[2J\n$(touch hit)'\u202e\\.pb"
         done = self.run_find(self.put(name, TIE), "--prices")
         self.assertTrue(all(line.isprintable() for line in done.stdout.splitlines()), done.stdout)
-        command = re.search("check it by: pbaudit (.*)", done.stdout)[1]
-        told = subprocess.run(["bash", "-c", f"printf '%s\\0' {command}"], capture_output=True, text=True, check=True)
         paths = [str(self.room / name), str(self.room / name[:-3]) + ".prices.csv"]
-        self.assertEqual(told.stdout.split("\0")[1:3], paths)
+        for command, files in zip(re.findall("check it with: pbaudit (.*)", done.stdout), (paths[:1], paths)):
+            told = subprocess.run(["bash", "-c", f"printf '%s\\0' {command}"], capture_output=True, text=True, check=True)
+            self.assertEqual(told.stdout.split("\0")[1:len(files) + 1], files)
         self.assertFalse((self.room / "hit").exists())
 
 
 @HAS_SCIPY
 class Stopped(Commands):
     def stopped(self, words, at):
-        """Interrupts a command, as the keyboard does, once its progress tells this: the output and the status."""
+        """Interrupts a command, as the keyboard does, once its progress tells this: the output, the status, and what it told."""
         master, slave = pty.openpty()
         # A shell has what it begins in the background ignore the keyboard.
         given = {"stdout": subprocess.PIPE, "stderr": slave, "cwd": self.room, "start_new_session": True,
@@ -324,11 +363,12 @@ class Stopped(Commands):
                 self.assertTrue(part, seen)
                 seen += part
             os.killpg(command.pid, signal.SIGINT)
-            while self.more_of(master):
-                pass
+            while part:
+                part = self.more_of(master)
+                seen += part
             out = command.stdout.read().decode()
         os.close(master)
-        return out, command.returncode
+        return out, command.returncode, seen
 
     @staticmethod
     def more_of(terminal):
@@ -339,7 +379,7 @@ class Stopped(Commands):
 
     def test_what_was_found_is_kept(self):
         town = self.put("town.pb", ENDLESS)
-        out, status = self.stopped(words_of(town, "--time", "100000"), b"violation by")
+        out, status, _ = self.stopped(words_of(town, "--time", "100000"), b"violation by")
         self.assertEqual(status, 0)
         self.assertIn("town.prices.csv: supported priceable\n", out)
         self.assertRegex(out, "\nThis was stopped while a violation by count(ing)? was looked for.\n$")
@@ -348,16 +388,19 @@ class Stopped(Commands):
 
     def test_where_nothing_was_found(self):
         words = words_of(self.put("town.pb", ENDLESS), "--violation", "--time", "100000")
-        out, status = self.stopped(words, b" s left")
-        self.assertEqual((status, out), (1, "This was stopped while a violation by counting was looked for.\n"))
+        out, status, _ = self.stopped(words, b" s left")
+        self.assertEqual(len(out.splitlines()), 3)
+        self.assertEqual((status, out.splitlines()[2]), (1, "This was stopped while a violation by counting was looked for."))
         self.assertEqual(list(self.files()), ["town.pb"])
 
     def test_a_folder(self):
         os.mkdir(self.room / "towns")
         self.put("towns/a.pb", TIE)
         self.put("towns/endless.pb", ENDLESS)
-        out, status = self.stopped(words_of("--folder", "towns", "--time", "100000"), b"1 of 2 elections")
+        out, status, told = self.stopped(words_of("--folder", "towns", "--time", "100000"), b"1 of 2 elections")
         self.assertEqual(status, 1)
+        # That its workers end isn't that they are lost.
+        self.assertNotIn(b"lost", told)
         self.assertIn("This was stopped before all elections were looked at.\n", out)
         self.assertLessEqual({"a.prices.csv", "found.csv"}, set(self.files("towns")))
         rows = list(csv.DictReader(self.files("towns")["found.csv"].decode().splitlines()))
@@ -433,7 +476,8 @@ class Folders(Commands):
         self.put("fair.pb", Case("fair", [5, 6], 10, [[0]] * 5 + [[1]] * 5, [0]))
 
     def rows(self, folder="."):
-        return list(csv.reader(self.files(folder)["found.csv"].decode().splitlines()))
+        """The rows without what they say of groups."""
+        return [row[:2] + row[3:] for row in csv.reader(self.files(folder)["found.csv"].decode().splitlines())]
 
     def test_a_table(self):
         done = self.run_find("--folder", self.room)
@@ -444,8 +488,14 @@ class Folders(Commands):
             ["fair.pb", "", "with Cover", "yes", "", "none found", ""],
             ["none.pb", "", "none found", "", "yes", "by counting and by cost", ""]])
         shown = [re.split("  +", line) for line in done.stdout.splitlines()]
-        self.assertEqual(shown[0], head)
+        self.assertEqual(shown[0], [*head[:2], "groups", *head[2:]])
         self.assertEqual([line[0] for line in shown[1:]], [row[0] for row in rows])
+        groups = {row["election"]: row["groups"] for row in csv.DictReader(self.files()["found.csv"].decode().splitlines())}
+        self.assertEqual(groups, {row[0]: str(pbaudit.audit_groups(self.room / row[0])) for row in rows})
+        # Of p0, which costs 1, five of six voters have got nothing, with a share of 2.5; of p1, which costs 6, five of ten
+        # have, with a share of 5.
+        self.assertEqual((groups["none.pb"], groups["fair.pb"]), (
+            "failed EJR+ by cost voters 5 project p0", "satisfied ejr+ by cost"))
         self.assertEqual(self.files()["a tie.prices.csv"], pbaudit.find(self.room / "a tie.pb").prices.file)
         self.assertEqual({name for name in self.files() if not name.endswith(".pb")}, {
             "a tie.prices.csv", "a tie.violation.csv", "a tie.cost.violation.csv", "fair.prices.csv", "found.csv",
@@ -662,12 +712,12 @@ class Documents(unittest.TestCase):
         put_on_the_path(self)
 
     def test_the_command(self):
-        words = block("~/pbaudit/bin/pip install './python[find]'").splitlines()[1].split()[3:]
+        words = block("~/pbaudit/bin/pip install './python[find]'").splitlines()[1].split()[1:]
         with tempfile.TemporaryDirectory() as room:
             shutil.copytree(EXAMPLES, f"{room}/examples", ignore=shutil.ignore_patterns("*.prices.csv"))
             done = subprocess.run([sys.executable, "-m", "pbaudit", *words], cwd=room, capture_output=True, text=True,
                                   check=False)
-        self.assertEqual((done.stdout, done.stderr), (block("found/district.refutation.csv"), ""))
+        self.assertEqual((done.stdout, done.stderr), (block("examples/district.pb: failed EJR+"), ""))
 
     def test_the_function(self):
         values, out = {}, io.StringIO()

@@ -15,7 +15,7 @@ HAS_SCIPY = unittest.skipUnless(importlib.util.find_spec("scipy"), "scipy isn't 
 def refuted(case, **switches):
     """The refutation that is found alone, or None. It holds as it is defined."""
     found = pbaudit.find(case.file(), prices=False, violation=False, **switches)
-    assert found.refutation is None or is_refutation(case, found.refutation), case.name
+    assert found.refutation is None or is_refutation(case, found.refutation, found.refutation.stable), case.name
     return found.refutation
 
 
@@ -44,6 +44,16 @@ class Refutations(unittest.TestCase):
                 self.assertGreater(found.cover, 0)
                 self.assertEqual((found.verdict.line, found.verdict.refutes), ("unpriceable cover", "with Cover"))
 
+    def test_costs_that_are_far_apart(self):
+        """What isn't funded costs so little beside the limit that a solver takes it for nothing, also where all is found by
+        floats: two voters of each three could pay for it alone."""
+        million, little = 10**6, Fraction(1, 10**6)
+        with mock.patch("pbaudit.finding.search.find_exactly", lambda *_: None):
+            for voters in (3, 30, 300):
+                case = Case("far", [5 * million, little], 3 * million, [[0, 1], [1], []] * (voters // 3), [])
+                self.assertGreater(refuted(case, cover=True).cover, 0)
+                self.assertIsNone(refuted(case))
+
     def test_prices_with_cover_are_never_refuted(self):
         for case in (case for seed in range(4) for case in cases(seed, ((10, 5), (20, 10)))):
             found = pbaudit.find(case.file(), violation=False, cover=True)
@@ -68,17 +78,52 @@ class Refutations(unittest.TestCase):
         case = Case("fair", [5, 6], 10, [[0]] * 5 + [[1]] * 5, [0])
         found = pbaudit.find(case.file(), prices=False, violation=False)
         self.assertFalse(found)
-        self.assertEqual(found.sentences, ["No refutation was found: by the linear programme there are prices of the plain "
-                                           "form. It computes in rounded numbers, so that this is no proof."])
+        self.assertEqual(found.sentences, ["No refutation was found: by the linear programme there are prices. It computes in "
+                                           "rounded numbers, so that this is no proof."])
 
-    def test_stable_prices_alone_arent_refuted(self):
-        """Plain prices support the outcome, and no stable ones do: nothing says that for certain."""
-        case = Case("stable", [2, 2], 2, [[1], [0, 1], [0, 1]], [0])
-        plain, stable = (pbaudit.find(case.file(), violation=False, stable=each) for each in (False, True))
-        self.assertTrue(plain.prices)
-        self.assertEqual((stable.prices, stable.refutation), (None, None))
-        self.assertEqual([sentence[:sentence.index(":")] for sentence in stable.sentences],
-                         ["No stable prices were found", "No refutation was found"])
+    def test_stable_prices_alone(self):
+        """Plain prices support the outcome, and no stable ones do, in elections that were worked out by hand."""
+        for case in (Case("three", [2, 2], 2, [[1], [0, 1], [0, 1]], [0]),
+                     Case("one project", [4, 1], 10, [[0, 1]] * 2, [0]),
+                     Case("a hair", [4, Fraction("3.999999")], 10, [[0, 1]] * 2, [0]),
+                     Case("two projects", [4, 4, 3], 10, [[0, 1, 2]] * 2, [0, 1])):
+            with self.subTest(case=case.name):
+                plain, stable = (pbaudit.find(case.file(), violation=False, stable=each) for each in (False, True))
+                self.assertTrue(plain.prices)
+                self.assertEqual((stable.prices, stable.refutation.verdict.line), (None, "unpriceable stable"))
+                self.assertEqual((stable.refutation.stable, stable.refutation.options), (True, ["--stable"]))
+                self.assertTrue(is_refutation(case, stable.refutation, True))
+                self.assertFalse(is_refutation(case, stable.refutation))
+                self.assertEqual(stable.sentences[-1],
+                                 "No stable prices can support this outcome, whatever the payments and the voter budget: that "
+                                 "is what the refutation proves. There may be prices that aren't stable.")
+
+    def test_stable_prices_with_cover_alone(self):
+        """By budgets of 4 two voters offer as much as 4, and by those of the limit, which are 5, 6. What refutes others
+        besides is told."""
+        for cost in (4, Fraction("4.5"), 6):
+            case = Case("cover", [4, cost], 10, [[0, 1]] * 2, [0])
+            self.assertTrue(pbaudit.find(case.file(), violation=False, stable=True).prices)
+            self.assertIsNone(refuted(case, stable=True))
+            found = refuted(case, stable=True, cover=True)
+            self.assertEqual((found.verdict.line, found.verdict.refutes), ("unpriceable cover", "with Cover"))
+        case = Case("cover", [4, Fraction("6.01")], 10, [[0, 1]] * 2, [0])
+        self.assertIsNone(refuted(case, stable=True, cover=True))
+
+    def test_where_there_are_stable_prices(self):
+        """In elections that were worked out by hand, with weights that look as if they refuted them."""
+        for case, cover in ((Case("one each", [4, 4], 7, [[0, 1]] * 2, [0]), True),
+                            (Case("one alone", [3, 1], 3, [[0, 1], [0]], [0]), False),
+                            (Case("three", [2, 2, 2, 2], 6, [[0, 1, 2, 3]], [0, 1, 2]), False),
+                            (Case("free", [2, 2, 0, 2], 4, [[0, 1, 2, 3]], [0, 1, 2]), False)):
+            found = pbaudit.find(case.file(), violation=False, stable=True)
+            self.assertEqual((bool(found.prices), found.prices.cover or not cover), (True, True), case.name)
+            self.assertIsNone(refuted(case, stable=True), case.name)
+
+    def test_what_refutes_all_prices_is_told(self):
+        """Also where stable ones alone were looked for."""
+        case = Case("over", [4, 5], 10, [[0]] * 5 + [[1]] * 5, [1])
+        self.assertEqual([refuted(case, stable=each).verdict.line for each in (False, True)], ["unpriceable"] * 2)
 
     def test_too_little_time(self):
         case = next(case for case in cases(1, ((300, 20),)) if case.name.endswith("by votes"))
@@ -92,7 +137,7 @@ class Refutations(unittest.TestCase):
         from pbaudit.finding import refutations
         case = Case("over", [4, 5], 10, [[0]] * 5 + [[1]] * 5, [1])
         self.assertIsNotNone(refuted(case))
-        with mock.patch.object(refutations, "audit_refutation", lambda *_: pbaudit.Verdict(False, "failed U3", "U3")):
+        with mock.patch.object(refutations, "audit_refutation", lambda *_, **__: pbaudit.Verdict(False, "failed U3", "U3")):
             found = pbaudit.find(case.file(), prices=False, violation=False)
         self.assertIsNone(found.refutation)
         self.assertIn("no exact one was found near it", str(found))
@@ -121,6 +166,20 @@ class Audits(unittest.TestCase):
             self.assertEqual(verdict.refutes, "with Cover" if verdict else None)
             self.assertEqual(verdict.condition, None if verdict else "U3")
             self.assertEqual((verdict.says_little, verdict.says_of_groups), (False, None))
+
+    def test_stable_prices(self):
+        """By weights that were worked out by hand: where they don't refute all prices, they are asked of stable ones."""
+        for cost, weights, line in (
+                (1, {"least": {"p0": 1}, "left": {"p1": 1}}, "unpriceable stable"),
+                (4, {"least": {"p0": 1}, "left": {"p1": 1}}, "failed U3"),
+                (4, {"cover": 1, "least": {"p0": 2}, "left": {"p1": 4}}, "unpriceable stable cover"),
+                (4, {"cover": 2, "least": {"p0": 2}, "left": {"p1": 4}}, "failed U2")):
+            case = Case("one", [4, cost], 10, [[0, 1]] * 2, [0])
+            claim = pbaudit.write_refutation(**weights)
+            self.assertEqual(pbaudit.audit_refutation(case.file(), claim, stable=True).line, line)
+            self.assertEqual(pbaudit.audit_refutation(case.file(), claim).line, "failed U2")
+        with self.assertRaisesRegex(TypeError, "^stable is 1, not True or False$"):
+            pbaudit.audit_refutation(case.file(), claim, stable=1)
 
     def test_a_verdict_is_pickled(self):
         """Whether or not there is a page about it."""

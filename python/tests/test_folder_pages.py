@@ -45,6 +45,24 @@ class Index(html.parser.HTMLParser):
             self.links[self.place] += data
 
 
+class Title(html.parser.HTMLParser):
+    """The title of a page."""
+
+    def __init__(self, page):
+        super().__init__()
+        self.title, self.is_title = "", False
+        self.feed(page)
+
+    def handle_starttag(self, tag, attrs):
+        self.is_title = tag == "title"
+
+    def handle_endtag(self, tag):
+        self.is_title = False
+
+    def handle_data(self, data):
+        self.title += data if self.is_title else ""
+
+
 class FolderPages(unittest.TestCase):
     def setUp(self):
         room = tempfile.TemporaryDirectory()
@@ -84,6 +102,22 @@ class FolderPages(unittest.TestCase):
                                         language="de")
             self.assertEqual((self.out / f"{name}.prices.html").read_bytes(), wanted)
         self.assertIn("Eine ungerechte Behandlung ist damit nicht bewiesen", places["district.violation.html"])
+
+    def test_titles_are_those_of_the_pages(self):
+        """In each language, of each answer, and where the election has no description."""
+        for name in ("hall.violation.csv", "sample.pb", "sample.prices.csv"):
+            shutil.copy(EXAMPLES / name, self.folder)
+        (self.folder / "hall.pb").write_bytes((EXAMPLES / "hall.pb").read_bytes().replace(b"description;", b"other;"))
+        told = set()
+        for language in pbaudit.pages.LANGUAGES:
+            for stable in (False, True):
+                for place, words in self.write(stable=stable, language=language)[1].links.items():
+                    title = Title((self.out / unquote(place)).read_text(encoding="utf-8")).title
+                    self.assertEqual(words, title)
+                    told.add(title.partition(" \u2013 ")[2])
+        self.assertEqual(len(told), 5 * len(pbaudit.pages.LANGUAGES))
+        self.assertIn("Les prix ne soutiennent pas ce r\u00e9sultat", told)
+        self.assertTrue(Index((self.out / "index.html").read_bytes()).links["hall.violation.html"].startswith("hall.pb \u2013 "))
 
     def test_names_are_text(self):
         _, index = self.write()

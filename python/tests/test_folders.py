@@ -136,6 +136,27 @@ class Folders(unittest.TestCase):
     def write(self, name, data):
         pathlib.Path(self.room, name).write_bytes(data)
 
+    def test_groups(self):
+        """A column of them where they are asked for, and nothing else is another: an outcome decides it, and an election
+        without one is read all the same."""
+        self.write("short.pb", (EXAMPLES / "hall.pb").read_bytes())
+        without = pbaudit.audit_folder(self.room)
+        for by, line in (("cost", "satisfied ejr+ by cost"), ("count", "failed EJR+ by count voters 2 project dance")):
+            asked = []
+            report = pbaudit.audit_folder(self.room, groups=by, on_result=asked.append)
+            self.assertEqual((report.text, report.status), (without.text, without.status))
+            told = {each.file: each.groups for each in report.results}
+            self.assertEqual((told["short.pb"], told["a.pb"]), (line, f"satisfied ejr+ by {by}"))
+            self.assertEqual({name for name in told if told[name]}, {
+                name for name in told if name.endswith(".pb")} - {"no.pb", "torn.pb"})
+            self.assertEqual(tuple(asked), report.results)
+            self.assertEqual([each._replace(groups=None) for each in report.results], list(without.results))
+            self.assertIn("<th><bdi>Groups</bdi></th></tr><tr><td><bdi>-x.pb</bdi>", report._repr_html_())
+        self.assertNotIn("Groups", without._repr_html_())
+        for by in ("Cost", True, ""):
+            with self.assertRaisesRegex(ValueError, "not 'count' or 'cost'"):
+                pbaudit.audit_folder(self.room, groups=by)
+
     def wanted(self, *switches):
         done = subprocess.run([PROGRAM, "folder", self.room, *switches], capture_output=True, check=False)
         return pbaudit.FolderReport(done.stdout.decode(), done.returncode)
@@ -282,7 +303,7 @@ class Folders(unittest.TestCase):
             self.assertEqual((report.status, report.lost), (4, (name,)))
             self.assertEqual(warnings.count(f"{name}.pb"), 2)
             lost = [result for result in report.results if result.answer == "lost"]
-            self.assertEqual([result[:2] + result[-1:] for result in lost], [(name, f"{name}.pb", "fault worker")])
+            self.assertEqual([(*result[:2], result.line) for result in lost], [(name, f"{name}.pb", "fault worker")])
             lines = self.wanted().text.splitlines(keepends=True)
             kept = [line for line in lines if not line.startswith((f"{name}.pb", f"{name}.prices", "total"))]
             self.assertEqual([line for line in report.text.splitlines(keepends=True) if line in kept], kept)
@@ -303,6 +324,23 @@ class Folders(unittest.TestCase):
         executor.shutdown()
         with self.assertLogs("pbaudit", "WARNING"):
             self.assertEqual(pbaudit.audit_folder(self.room, executor), self.wanted())
+
+    def test_what_the_keyboard_stops_is_not_begun(self):
+        class First(Executor):
+            """Does the first task at once, and the others never."""
+
+            tasks = []
+
+            def submit(self, work, *given):
+                future = Future()
+                if not self.tasks:
+                    future.set_result(work(*given))
+                self.tasks.append(future)
+                return future
+        with mock.patch.object(folders, "MOST_OF_A_TASK", 1), self.assertRaises(KeyboardInterrupt):
+            pbaudit.audit_folder(EXAMPLES, First(), on_result=mock.Mock(side_effect=KeyboardInterrupt))
+        self.assertGreater(len(First.tasks), 2)
+        self.assertTrue(all(task.cancelled() for task in First.tasks[1:]))
 
     def test_what_is_called_later(self):
         for wrong in (1, "print"):

@@ -34,6 +34,31 @@ class Matrices(unittest.TestCase):
         self.assertEqual(str(validate_price_system(SAMPLE, array(BALLOTS), [A, B], 4, worse)), "failed C3 project b")
         self.assertEqual(pbaudit.equal_shares(SAMPLE, array(BALLOTS)), pbaudit.equal_shares(SAMPLE, PROFILE))
 
+    def test_what_says_neither_0_nor_1(self):
+        """Text, what is missing, and what is masked."""
+        array, ma = self.numpy.array, self.numpy.ma
+        masked = ma.array(PAID, mask=[[1, 0, 0], [0, 0, 0], [0, 0, 0]])
+        for ballots, paid, told in (
+                (array(BALLOTS, str), PAYMENTS, "^the profile is a matrix of str.*: only approvals"),
+                (array(BALLOTS, complex), PAYMENTS, "^the profile is a matrix of complex"),
+                (ma.array(BALLOTS, mask=array(BALLOTS) == 0), PAYMENTS, "^the profile has masked entries"),
+                (PROFILE, masked, "^the matrix of payments has masked entries")):
+            with self.assertRaisesRegex(TypeError, told):
+                validate_price_system(SAMPLE, ballots, [A, B], 4, paid)
+        known = ma.array(BALLOTS, mask=False)
+        self.assertTrue(validate_price_system(SAMPLE, known, [A, B], 4, ma.array(PAID)))
+
+    @unittest.skipUnless(importlib.util.find_spec("pandas"), "pandas isn't installed")
+    def test_what_is_missing_of_a_table(self):
+        import pandas
+        ballots, paid = (pandas.DataFrame(each, columns=list("abc"), dtype="Int64") for each in (BALLOTS, PAID))
+        self.assertTrue(validate_price_system(SAMPLE, ballots, [A, B], 4, paid))
+        ballots.loc[1, "c"] = paid.loc[2, "a"] = pandas.NA
+        for given, told in ((((ballots, PAYMENTS)), "^the row of voter 2 in the profile has an entry that is no number$"),
+                            (((PROFILE, paid)), "^the row of voter 3 in the matrix of payments has an entry")):
+            with self.assertRaisesRegex(TypeError, told):
+                validate_price_system(SAMPLE, given[0], [A, B], 4, given[1])
+
     def test_floats_are_rounded_by_price_certificate_alone(self):
         for kind in ("float64", "float32"):
             paid = self.numpy.array(PAID, kind) + self.numpy.array([[1e-7, 0, 0], [0, 0, 0], [0, 0, 0]], kind)

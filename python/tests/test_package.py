@@ -64,6 +64,30 @@ class Types(unittest.TestCase):
         self.assertRegex(lines[4], r"^refused election 2 NoMeta record 1 election 1 ")
 
 
+class Answers(unittest.TestCase):
+    """What the auditor answers is read as an object, and nothing is taken out of what it prints."""
+
+    # What patterns are for, by the modules that have some.
+    PATTERNS = {"records.py": "the records of files", "__main__.py": "a word of a command", "_places.py": "Node's version",
+                "readers_page.py": "the page for browsers, into which files are put", "spreadsheets.py": "cells of a table"}
+    # How answers were taken out of lines, tables and pages before there were objects.
+    GONE = ("facts_in", "project_in", "_GROUP_LINES", "_FAILED", "_culprit_in", "_counts_in", "_fault_in", "refusal_object",
+            r"split\(b?['\"]\\n\\n", r"\[:?12[:\]]", r"\[:?23[:\]]", r"b['\"]</?title", r"['\"]note: ['\"]",
+            r"\.(text|printed|line|stdout|stderr)\b.*\.(split|partition|startswith|removeprefix|splitlines|find|index)\(",
+            r"(match|search|split|startswith|partition|removeprefix)\(r?b?f?['\"](read|refused|failed|supported|satisfied)")
+
+    def test_patterns_are_for_files_and_words(self):
+        found = {path.name for path in PACKAGE.rglob("*.py")
+                 if re.search(r"^\s*(import|from) re\b", path.read_text(encoding="utf-8"), re.MULTILINE)}
+        self.assertEqual(found, {*self.PATTERNS})
+
+    def test_nothing_is_taken_out_of_what_is_printed(self):
+        gone = re.compile("|".join(self.GONE))
+        for path in sorted(PACKAGE.rglob("*.py")):
+            for number, line in enumerate(path.read_text(encoding="utf-8").split("\n"), 1):
+                self.assertIsNone(gone.search(line), f"{path.name}:{number}: {line.strip()}")
+
+
 class Loading(unittest.TestCase):
     def test_an_import_is_quick(self):
         """The best of five: 0.05 s of a processor."""

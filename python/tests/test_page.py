@@ -62,9 +62,9 @@ class Pages(unittest.TestCase):
             ((DISTRICT, PRICES), {}, "The prices support this outcome", "for 3 projects the supporters could offer more"),
             ((DISTRICT, PRICES), {"stable": True}, "The prices don\u2019t support this outcome", "This is so for 3 projects."),
             ((DISTRICT, VIOLATION, OTHER), {}, "This group was treated worse than it deserves", "9 of 60"),
-            ((DISTRICT, PRICES), {"language": "pl"}, "Ceny uzasadniaj\u0105 ten wynik", "dla 3 projekt\u00f3w zwolennicy"),
+            ((DISTRICT, PRICES), {"language": "pl"}, "Ceny wspieraj\u0105 ten wynik", "dla 3 projekt\u00f3w zwolennicy"),
             ((DISTRICT, PRICES), {"language": "de"}, "Die Preise st\u00fctzen dieses Ergebnis", "F\u00fcr 3 Projekte"),
-            ((DISTRICT, PRICES), {"language": "fr"}, "Les prix justifient ce r\u00e9sultat", "pour 3 projets"),
+            ((DISTRICT, PRICES), {"language": "fr"}, "Les prix soutiennent ce r\u00e9sultat", "pour 3 projets"),
         ):
             with self.subTest(files=files, switches=switches):
                 made = write_page(*files, **switches)
@@ -172,15 +172,15 @@ def shown(amount):
 
 class Large(unittest.TestCase):
     def test_a_city(self):
-        """50,000 voters and 120 projects: under 1 MB, and made in under 5 seconds."""
+        """50,000 voters and 120 projects: under 1 MB, and made in under 5 seconds of a processor."""
         ids = [f"p{at}" for at in range(120)]
         town = pbaudit.Instance([pbaudit.Project(name, 10**6) for name in ids], 40 * 10**6)
         ballots = [ids[at % 100:at % 100 + 8] for at in range(50_000)]
         election = pbaudit.write_election(town, ballots, ids[:40])
         prices = pbaudit.write_prices(200, [{name: at % 90 + 1} for at, (name, *_) in enumerate(ballots)])
-        began = time.monotonic()
+        began = time.process_time()
         made = write_page(election, prices)
-        self.assertLess(time.monotonic() - began, 5)
+        self.assertLess(time.process_time() - began, 5)
         self.assertLess(len(made), 10**6)
         self.assertEqual(made.count(b'class="bar'), 122)
 

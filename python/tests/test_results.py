@@ -125,20 +125,37 @@ def results():
     town, prices = pbaudit.write_election(instance, profile, [x, y]), pbaudit.write_prices(4, payments)
     verdict = validate_price_system(instance, profile, [x, y], 4, payments)
     made = price_certificate(instance, profile, [x, y], 4, payments)
+    explanation, short = verdict.explain(), pbaudit.groups_that_fall_short(instance, profile, [])
+    told = pbaudit.audit_groups(town, pbaudit.write_outcome([]))
+    found = [verdict, explanation, explanation.findings[0], pbaudit.read(town), pbaudit.margins(town, prices)[0], made,
+             made.price_system, equal_shares(instance, profile), told, told.group, pbaudit.explain_groups(town),
+             pbaudit.group_margins(town)[0], short[0]]
     with tempfile.TemporaryDirectory() as room:
         pathlib.Path(room, f"t{HOSTILE.replace('/', '')}.pb").write_bytes(town)
         report = pbaudit.audit_folder(room)
-    explanation = verdict.explain()
-    found = [verdict, explanation, explanation.findings[0], pbaudit.read(town), pbaudit.margins(town, prices)[0], made,
-             made.price_system, equal_shares(instance, profile), report, report.results[0]]
+        found += [report, report.results[0]]
+        if importlib.util.find_spec("scipy"):
+            folder = pbaudit.find_folder(room, violation=False)
+            found += [folder, folder.rows[0]]
     if importlib.util.find_spec("scipy"):
         chosen = find(instance, [[x, y]] * 5 + [[z]], [x], violation=False)
         refuted = find(instance, [[x, y]] * 5 + [[z]], [z])
-        found += [chosen, chosen.prices, refuted, refuted.refutation, *refuted.violations[:1]]
+        found += [chosen, chosen.prices, refuted, refuted.refutation, *refuted.violations[:1],
+                  pbaudit.smallest_relaxation(instance, profile, [x])]
     return found
 
 
+def result_classes():
+    """The names of the classes that are exported, but for errors and what elections are made of."""
+    kinds = {name: getattr(pbaudit, name) for name in pbaudit.__all__ if name not in ("Instance", "Project")}
+    return {name for name, kind in kinds.items() if isinstance(kind, type) and not issubclass(kind, BaseException)}
+
+
 class Tables(unittest.TestCase):
+    @needs_scipy
+    def test_of_each_kind(self):
+        self.assertEqual({type(result).__name__ for result in results()}, result_classes())
+
     def test_names_are_text(self):
         """In the HTML of each result a name is no element, and nothing that turns what stands beside it."""
         named = 0
@@ -195,7 +212,9 @@ class Tables(unittest.TestCase):
         able, unable = set(), set()
         for result in results():
             (able if type(result).__hash__ else unable).add(type(result).__name__)
-        self.assertEqual(unable - {"Found", "FoundRefutation", "FoundViolation"}, {"EqualShares", "PriceSystem"})
+        told = LIBRARY.read_text(encoding="utf-8").split("Results\ncan be members of sets, but not ")[1].split(", which have")[0]
+        searched = set() if importlib.util.find_spec("scipy") else {"Relaxation", "Found", "FoundRefutation", "FoundViolation"}
+        self.assertEqual(unable, set(re.findall("`(.*?)`", told)) - searched)
         for result in results():
             if type(result).__name__ in able:
                 hash(result)
@@ -206,21 +225,19 @@ class Tables(unittest.TestCase):
 
 class Names(unittest.TestCase):
     def test_each_result_has_them(self):
-        """Each class that is exported, but errors and what elections are made of."""
-        for name in pbaudit.__all__:
-            kind = getattr(pbaudit, name)
-            if isinstance(kind, type) and not issubclass(kind, Exception) and name not in ("Instance", "Project"):
-                for method in ("to_dict", "rows_of_table", "to_frame", "_repr_html_"):
-                    self.assertTrue(callable(getattr(kind, method, None)), f"{name}.{method}")
+        for name in result_classes():
+            for method in ("to_dict", "rows_of_table", "to_frame", "_repr_html_"):
+                self.assertTrue(callable(getattr(getattr(pbaudit, name), method, None)), f"{name}.{method}")
 
-    def test_all_that_is_documented_is_exported(self):
-        """Each function and class of the table in the document, after an import of all."""
+    def test_what_is_exported_is_what_is_documented(self):
+        """The calls of the table in the document, and the names behind it."""
         names = {}
         exec("from pbaudit import *", names)
-        table = LIBRARY.read_text(encoding="utf-8").split("| To | Call |")[1].split("\n\n")[0]
-        documented = set(re.findall(r"`([A-Za-z_]+)`", table))
-        self.assertGreater(len(documented), 15)
-        self.assertEqual(documented - set(names), set())
+        table, more = LIBRARY.read_text(encoding="utf-8").split("| To | Call |")[1].split("\n\n")[:2]
+        self.assertTrue(more.startswith("**All names:** `from pbaudit import *` brings "))
+        documented = re.findall(r"`([A-Za-z_]+)`", table + more)
+        self.assertEqual(sorted(documented), sorted(names.keys() - {"__builtins__"}))
+        self.assertEqual(sorted(documented), sorted(pbaudit.__all__))
 
 
 if __name__ == "__main__":

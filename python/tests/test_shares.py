@@ -281,7 +281,7 @@ class Commands(unittest.TestCase):
     def test_a_command_without_the_program(self):
         """Where no pbaudit is on the PATH, the command that is told is that of the package, and works."""
         done = run(EXAMPLES / "district.pb", "-o", self.room / "d.prices.csv", env=without_pbaudit())
-        told = done.stdout.splitlines()[-1].partition("check it by: ")[2]
+        told = done.stdout.splitlines()[-1].partition("check it with: ")[2]
         self.assertEqual(shlex.split(told)[:4], [sys.executable, "-m", "pbaudit", "prices"])
         checked = subprocess.run(["sh", "-c", told], capture_output=True, env=without_pbaudit(), check=False)
         self.assertEqual((checked.returncode, checked.stdout), (0, b"supported priceable\n"), checked.stderr)
@@ -305,7 +305,7 @@ class Commands(unittest.TestCase):
         self.assertIn("another outcome: the rule doesn't fund 101\n", done.stdout)
         outcome, prices = (str(self.room / f"d.{name}.csv") for name in ("outcome", "prices"))
         self.assertEqual(shlex.split(done.stdout.splitlines()[-1]), [
-            "check", "it", "by:", "pbaudit", "prices", str(EXAMPLES / "district.pb"), prices, "--outcome", outcome,
+            "check", "it", "with:", "pbaudit", "prices", str(EXAMPLES / "district.pb"), prices, "--outcome", outcome,
             "--no-exhaustive"])
 
     def test_an_outcome_that_is_the_own(self):
@@ -404,10 +404,10 @@ class Commands(unittest.TestCase):
                 self.assertEqual(lines[2], "  " + " ".join(shown))
                 self.assertIn("S5 fails: project \\u{202e}z costs", done.stdout.decode())
                 self.assertFalse(any(letter in done.stdout.decode() for letter in "\u009b\u202e\u2028\u00a0"))
-                checks = [line for line in lines if line.startswith("check it by: ")]
+                checks = [line for line in lines if line.startswith("check it with: ")]
                 self.assertEqual(len(checks), 1 if has_command else 0)
                 for check in checks:
-                    script = f"pbaudit() {{ {shlex.quote(str(PROGRAM))} \"$@\"; }}; {check[len('check it by: '):]}"
+                    script = f"pbaudit() {{ {shlex.quote(str(PROGRAM))} \"$@\"; }}; {check[len('check it with: '):]}"
                     told = subprocess.run(["sh", "-c", script], capture_output=True, cwd=self.room, check=False)
                     self.assertEqual((told.returncode, told.stdout), (0, b"supported priceable\n"), told.stderr)
         self.assertFalse((self.room / "PWNED").exists())

@@ -9,6 +9,7 @@ import re
 import shutil
 import subprocess
 import sys
+import tarfile
 import tempfile
 import unittest
 import zipfile
@@ -23,6 +24,7 @@ import wheel_writer  # noqa: E402
 # What tells of a library what it asks of glibc.
 OLD, NEW = b"old\0GLIBC_2.2.5\0GLIBC_2.14\0", b"new\0GLIBC_2.28\0GLIBC_2.4\0"
 OLD_PROGRAM, NEW_PROGRAM = b"old program\0GLIBC_2.2.5\0", b"new program\0GLIBC_2.3\0"
+ENTRY = TOP / "python" / "backend" / "entry.py"
 STATES_VERSION = "crates/pb_words/src/version.rt"
 
 
@@ -99,9 +101,11 @@ class Wheels(unittest.TestCase):
         """The library and the program in the wheel."""
         with self.wheel(**given) as (wheel, _):
             self.assertIn("pbaudit/py.typed", wheel.namelist())
-            command = f"pbaudit-{version()}.data/scripts/pbaudit"
-            self.assertEqual(wheel.getinfo(command).external_attr >> 16, 0o100755)
-            return wheel.read("pbaudit/libpbaudit.so.1"), wheel.read(command)
+            program, command = "pbaudit/bin/pbaudit", f"pbaudit-{version()}.data/scripts/pbaudit"
+            for name in (program, command):
+                self.assertEqual(wheel.getinfo(name).external_attr >> 16, 0o100755)
+            self.assertEqual(wheel.read(command), ENTRY.read_bytes())
+            return wheel.read("pbaudit/libpbaudit.so.1"), wheel.read(program)
 
     def test_what_is_current_is_taken(self):
         self.release()
@@ -225,14 +229,52 @@ class Wheels(unittest.TestCase):
         with self.wheel() as (_, name):
             self.assertEqual(name, f"pbaudit-{version()}-py3-none-manylinux_2_28_x86_64.whl")
 
+    def test_for_any_platform_it_has_the_command_of_the_package_for_javascript(self):
+        """And neither library nor program; the same package gives the same bytes."""
+        made = io.BytesIO()
+        with tarfile.open(fileobj=made, mode="w:gz") as package:
+            for name in ("LICENSE", "command.js", "generated.js", "index.js", "package.json", "pbaudit.wasm"):
+                entry = tarfile.TarInfo(f"package/{name}")
+                entry.size = len(name)
+                package.addfile(entry, io.BytesIO(name.encode()))
+        with tempfile.TemporaryDirectory() as room:
+            wheels = []
+            for folder in ("one", "two"):
+                pathlib.Path(room, folder).mkdir()
+                name = wheel_writer.write_module_wheel(pathlib.Path(room, folder), made.getvalue())
+                self.assertEqual(name, f"pbaudit-{version()}-py3-none-any.whl")
+                wheels.append(pathlib.Path(room, folder, name).read_bytes())
+        self.assertEqual(*wheels)
+        with zipfile.ZipFile(io.BytesIO(wheels[0])) as wheel:
+            names = {name for name in wheel.namelist() if not name.endswith((".py", "py.typed")) and "dist-info" not in name}
+            self.assertEqual(names, {f"pbaudit/node/{name}" for name in ("command.js", "package.json", "pbaudit.wasm")})
+            self.assertEqual(wheel.read("pbaudit/node/command.js"), b"command.js")
+            said = wheel.read(f"pbaudit-{version()}.dist-info/WHEEL").decode()
+            self.assertIn("Root-Is-Purelib: true\nTag: py3-none-any\n", said)
+            self.assertIn(b"pbaudit.__main__:main", wheel.read(f"pbaudit-{version()}.dist-info/entry_points.txt"))
+
     def test_without_a_program_the_command_asks_the_library(self):
         with tempfile.TemporaryDirectory() as room:
             name = wheel_writer.write_wheel(room, OLD, machine="aarch64")
             self.assertEqual(name, f"pbaudit-{version()}-py3-none-manylinux_2_14_aarch64.manylinux2014_aarch64.whl")
             with zipfile.ZipFile(pathlib.Path(room, name)) as wheel:
-                told = wheel.read(f"pbaudit-{version()}.dist-info/entry_points.txt").decode()
-                self.assertFalse([each for each in wheel.namelist() if "/scripts/" in each])
-        self.assertEqual(told, "[console_scripts]\npbaudit = pbaudit.__main__:main\n")
+                self.assertEqual(wheel.read(f"pbaudit-{version()}.data/scripts/pbaudit"), ENTRY.read_bytes())
+                self.assertNotIn("pbaudit/bin/pbaudit", wheel.namelist())
+
+    def test_one_by_which_python_takes_the_package_from_here(self):
+        """It has the command, what the package says of itself, and the folder; nothing has to be built for it."""
+        self.library.unlink()
+        self.program.unlink()
+        with mock.patch.object(wheel_writer, "REPOSITORY", self.top), tempfile.TemporaryDirectory() as room:
+            name = wheel_writer.build_editable(room)
+            self.assertEqual(name, f"pbaudit-{version()}-py3-none-any.whl")
+            with zipfile.ZipFile(pathlib.Path(room, name)) as wheel:
+                self.assertEqual(wheel.read("__editable__.pbaudit.pth").decode(), f"{TOP / 'python'}\n")
+                command = f"pbaudit-{version()}.data/scripts/pbaudit"
+                self.assertEqual((wheel.read(command), wheel.getinfo(command).external_attr >> 16),
+                                 (ENTRY.read_bytes(), 0o100755))
+                self.assertFalse([each for each in wheel.namelist() if each.startswith("pbaudit/")])
+        self.assertEqual(self.built, [])
 
     def test_what_it_says_of_itself(self):
         with self.wheel() as (wheel, _):

@@ -5,8 +5,8 @@ import sys
 from fractions import Fraction
 
 from pbaudit import (
-    Instance, Project, Refusal, audit_folder, audit_prices, equal_shares, explain, price_certificate, read,
-    validate_price_system, write_election, write_page, write_prices,
+    Instance, Project, Refusal, audit_folder, audit_groups, audit_prices, equal_shares, explain, groups_that_fall_short,
+    price_certificate, read, validate_price_system, write_election, write_page, write_prices,
 )
 
 
@@ -15,6 +15,9 @@ def main(folder: str) -> None:
     instance = Instance([a, b, c], 10)
     profile = [{a, b}, {a}, {b, c}]
     write_election(instance, profile, [a, b], f"{folder}/town.pb")
+    assert not groups_that_fall_short(instance, profile, [a, b], "count")
+    group = audit_groups(folder + "/town.pb", satisfaction="count").group
+    assert group is not None and group.missing > 0, group
     payments = [{a: 2, b: 2}, {a: 4}, {b: 2}]
     verdict = validate_price_system(instance, profile, [a, b], 4, payments)
     assert verdict, (verdict.condition, verdict.voter, verdict.project)

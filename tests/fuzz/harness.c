@@ -4,8 +4,8 @@
 
    Each file and each answer ends where a page ends that nothing may touch. The same call has to say the same with just enough
    room, and write nothing with less or where it runs out of memory; what explains has to begin with the line that is explained,
-   both have to be what each is, what is said of groups goes with the note, tidied prices stay as they are, and each refusal has a
-   hint or none, but ends.
+   both have to be what each is, what is said of groups goes with the note, tidied prices stay as they are, a report ends with the
+   answer's text, and each refusal has a hint or none, but ends.
 
    The library has no counters for libFuzzer, so the kinds of its answers are counted in their place.
 */
@@ -49,8 +49,14 @@ static void demand(bool holds, const char *what) {
     }
 }
 
+static const char letters[] = "rpvubemt";
+
+static uint8_t question_of(char command) {
+    const char *letter = strchr(letters, command);
+    return letter && *letter ? (uint8_t)(letter - letters) : 0;
+}
+
 static uint8_t call(char command, uint8_t *out, size_t room, size_t *needed) {
-    static const char letters[] = "rpvubemt";
     const uint8_t *e = files[ELECTION].at, *c = files[CERTIFICATE].at, *v = files[VIOLATION].at, *o = files[OUTCOME].at;
     size_t el = files[ELECTION].length, cl = files[CERTIFICATE].length, vl = files[VIOLATION].length, ol = files[OUTCOME].length;
     if (command == 'n')
@@ -58,9 +64,15 @@ static uint8_t call(char command, uint8_t *out, size_t room, size_t *needed) {
     if (command == 'g')
         return pbaudit_answer_page(e, el, v, 0, o, ol, v, 0, has_outcome, c, cl, v, 0, stable, exhaustive, cover,
                                    (const uint8_t *)"de", 2, &facts, out, room, needed);
-    const char *letter = strchr(letters, command);
-    return pbaudit_answer(letter && *letter ? (uint8_t)(letter - letters) : 0, e, el, o, ol, has_outcome, c, cl, v, vl, stable,
-                          exhaustive, cover, &facts, out, room, needed);
+    return pbaudit_answer(question_of(command), e, el, o, ol, has_outcome, c, cl, v, vl, stable, exhaustive, cover, &facts, out,
+                          room, needed);
+}
+
+static uint8_t report(char command, uint8_t *out, size_t room, size_t *needed) {
+    const uint8_t *e = files[ELECTION].at, *c = files[CERTIFICATE].at, *v = files[VIOLATION].at, *o = files[OUTCOME].at;
+    size_t el = files[ELECTION].length, cl = files[CERTIFICATE].length, vl = files[VIOLATION].length, ol = files[OUTCOME].length;
+    return pbaudit_report(question_of(command), e, el, o, ol, has_outcome, c, cl, v, vl, stable, exhaustive, cover, out, room,
+                          needed);
 }
 
 static bool is_untouched(Bytes out) {
@@ -102,6 +114,18 @@ static void starve(char command, Answer usual, long at) {
         demand(needed == 0 && is_untouched(out), "it writes where memory ran out");
     else
         demand(status == usual.status && needed == usual.text.length && !memcmp(out.at, usual.text.at, needed), "another answer");
+    let_go(out);
+}
+
+/* The report on a question ends as its answer and with its text, behind an object. */
+static void demand_report(char command, Answer said) {
+    size_t needed = 0;
+    uint8_t none;
+    demand(report(command, &none, 0, &needed) == said.status && needed > said.text.length, "a report that ends otherwise");
+    Bytes out = guarded(needed);
+    demand(report(command, out.at, out.length, &needed) == said.status && needed == out.length, "another report with room for it");
+    demand(!memcmp(out.at, "{\"hint\":", 8), "a report without an object");
+    demand(!memcmp(out.at + out.length - said.text.length, said.text.at, said.text.length), "a report without its text");
     let_go(out);
 }
 
@@ -206,6 +230,8 @@ int LLVMFuzzerTestOneInput(const uint8_t *data, size_t size) {
         starve(command, said, starved);
     if (said.status == 2)
         hint(command, told);
+    if (command != 'n' && command != 'g')
+        demand_report(command, said);
     if (command == 'p')
         demand_groups(said);
     if (command == 'b')

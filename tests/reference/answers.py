@@ -2,12 +2,12 @@
 import os
 import stat
 
-from . import conditions, refutations, violations
+from . import conditions, group_figures, groups, refutations, violations
 from .certificates import (
     canonical, quoted, read_outcome, read_prices, read_refutation, read_violation, rows_of,
 )
 from .election import read_election
-from .explaining import group_lines, price_lines, refutation_lines, violation_lines
+from .explaining import group_lines, price_lines, refutation_lines, shown_group_lines, violation_lines
 from .records import MOST_BYTES, Refused
 
 YES, NO, REFUSED = 0, 1, 2
@@ -25,8 +25,13 @@ NAMES = {
     **dict(enumerate(CERTIFICATE_FAULTS, 20)),
 }
 MODE = ["--stable", "--no-exhaustive", "--cover"]
-WITH_MODE = ["prices", "folder", "both", "explain", "page"]
+WITH_MODE = ["prices", "refutation", "folder", "both", "explain", "page"]
+# What stands in the certificate's place.
+GROUPS = "--groups"
+# Options that are followed by a word.
+VALUED = ["--outcome", "--language", "--satisfaction"]
 SAYS_LITTLE = "note: the voter budgets together are less than the limit, so this yes says little"
+COSTS_MORE = "note: the funded projects cost more than the limit"
 
 
 class RefusedInput(Exception):
@@ -110,18 +115,32 @@ def verdict_on_violation(election, funded, violation):
     return (failed(election, *failure), NO) if failure else (line("violation"), YES)
 
 
-def verdict_on_refutation(election, funded, refutation):
+def verdict_on_refutation(election, funded, refutation, mode=()):
+    """The verdict on weights, of all prices; if they don't refute these and stable prices are asked about, on those of them."""
+    cover = " cover" if refutation.cover else ""
     failure = refutations.first_failure(election, funded, refutation)
-    if failure:
-        return failed(election, *failure), NO
-    return line("unpriceable cover" if refutation.cover else "unpriceable"), YES
+    if not failure:
+        return line("unpriceable" + cover), YES
+    if "--stable" in mode:
+        failure = refutations.first_failure(election, funded, refutation, True)
+        if not failure:
+            return line("unpriceable stable" + cover), YES
+    return failed(election, *failure), NO
+
+
+def verdict_on_groups(election, funded, measure):
+    short = groups.first_short(election, funded, measure == "cost")
+    if not short:
+        return line(f"satisfied ejr+ by {measure}"), YES
+    project, group = short
+    return b"failed EJR+ by %s voters %d project %s\n" % (measure.encode(), len(group), election.id(project)), NO
 
 
 class Commands:
     """Each command, by its name. What 'beside' has is told on standard error, before any hint."""
 
-    def __init__(self):
-        self.beside, self.language = b"", "en"
+    def __init__(self, language="en", measure="cost"):
+        self.beside, self.language, self.measure = b"", language, measure
 
     def noted_election(self, path):
         """Takes an election, and has the notes on it told beside the answer, each with the path of its file."""
@@ -157,7 +176,15 @@ class Commands:
         election = self.noted_election(paths[0])
         funded = take_outcome(election, outcome)
         refutation = take("certificate", read_refutation, paths[1], election)
-        return verdict_on_refutation(election, funded, refutation)
+        return verdict_on_refutation(election, funded, refutation, mode)
+
+    def groups(self, paths, mode, outcome):
+        """The answer without a certificate. It is noted that the funded projects together cost more than the limit."""
+        election = self.noted_election(paths[0])
+        funded = take_outcome(election, outcome)
+        if sum(election.costs[project] for project in funded) > election.limit:
+            self.beside += os.fsencode(paths[0]) + b": " + line(COSTS_MORE)
+        return verdict_on_groups(election, funded, self.measure)
 
     def tidy(self, paths, mode, outcome):
         election = take("election", read_election, paths[0])
@@ -175,12 +202,18 @@ class Commands:
     def margins(self, paths, mode, outcome):
         election = take("election", read_election, paths[0])
         funded = take_outcome(election, outcome)
+        if GROUPS in mode:
+            return margins_of_groups(election, funded, self.measure), YES
         prices = take("certificate", read_prices, paths[1], election)
         return margins(conditions.Claim(election, funded, prices)), YES
 
     def explain(self, paths, mode, outcome):
         """The line of 'prices', 'violation' or 'refutation', an empty line, and what each condition or test comes to; after
-        a yes to prices an empty line, and what that says of groups."""
+        a yes to prices an empty line, and what that says of groups. Or the line of 'groups', and the group that is shown."""
+        if GROUPS in mode:
+            text, status = self.groups(paths, mode, outcome)
+            election = take("election", read_election, paths[0])
+            return text + b"\n" + b"".join(map(line, shown_group_lines(election, take_outcome(election, outcome), self.measure))), status
         election = self.noted_election(paths[0])
         funded = take_outcome(election, outcome)
         kind = kind_of(take("certificate", bytes, paths[1]))
@@ -190,8 +223,8 @@ class Commands:
             lines = violation_lines(election, funded, violation)
         elif kind == "refutation":
             refutation = take("certificate", read_refutation, paths[1], election)
-            text, status = verdict_on_refutation(election, funded, refutation)
-            lines = refutation_lines(refutations.Weighing(election, funded, refutation))
+            text, status = verdict_on_refutation(election, funded, refutation, mode)
+            lines = refutation_lines(refutations.Weighing(election, funded, refutation, "--stable" in mode))
         else:
             prices = take("certificate", read_prices, paths[1], election)
             text, status = self.verdict_on_prices(paths[0], election, funded, prices, mode)
@@ -203,20 +236,16 @@ class Commands:
         """Not the HTML, but each text of the page, and each label and class by which something is told, on a line."""
         from .page.nodes import pieces_of
         from .page.whole import Audit
-        audit = Audit(*paths, mode, outcome)
+        audit = Audit(*paths, mode=mode, outcome=outcome, measure=self.measure if GROUPS in mode else None)
         return b"".join(line(piece) for _, piece in pieces_of(audit.page(self.language))), audit.status
 
     def folder(self, paths, mode, outcome):
         try:
-            with os.scandir(os.fsencode(paths[0])) as listing:
-                files = {entry.name for entry in listing if stat.S_ISREG(entry.stat(follow_symlinks=False).st_mode)}
-            for name in files:
-                name.decode("utf-8")
-        except (OSError, UnicodeDecodeError):
+            names, files = entries_of(paths[0])
+        except Refused:
             return line("refused folder 18 Read record 0"), REFUSED
-        names = [name[:-3] for name in files if name.endswith(b".pb") and is_entry(name)]
         text, counts = b"", {YES: 0, NO: 0, REFUSED: 0}
-        for name in sorted(names):
+        for name in names:
             text += self.entry(os.path.join(os.fsencode(paths[0]), name), name, files, mode, counts)
         text += line(f"total {len(names)} elections {counts[YES]} yes {counts[NO]} no {counts[REFUSED]} refused")
         return text, REFUSED if counts[REFUSED] else NO if counts[NO] else YES
@@ -247,6 +276,18 @@ def kind_of(data):
     return "refutation" if first == [b"pb-refutation", b"1"] else "prices"
 
 
+def entries_of(path):
+    """The names of the elections of a folder in order, without their ending, and its files."""
+    try:
+        with os.scandir(os.fsencode(path)) as listing:
+            files = {entry.name for entry in listing if stat.S_ISREG(entry.stat(follow_symlinks=False).st_mode)}
+        for name in files:
+            name.decode("utf-8")
+    except (OSError, UnicodeDecodeError):
+        raise Refused(READ, 0) from None
+    return sorted(name[:-3] for name in files if name.endswith(b".pb") and is_entry(name)), files
+
+
 def is_entry(name):
     return len(name) > 3 and not any(byte < 32 or byte == 127 for byte in name)
 
@@ -263,6 +304,18 @@ def margins(claim):
     return b"".join(each + b"\n" for each in lines)
 
 
+def margins_of_groups(election, funded, measure):
+    """The sums for the group of each unfunded project with a supporter, in millionths times the number of voters."""
+    voters = max(1, len(election.ballots))
+    lines = [b"pb-groups,1", b"satisfaction," + measure.encode(), b"denominator,%d" % voters,
+             b"project,voters,most,need,share,missing"]  # fmt: skip
+    for group in group_figures.of_all(election, funded, measure == "cost"):
+        need, share = group.need * voters, group.voters * election.limit
+        cells = (group.voters, group.most, need, share, need - share)
+        lines.append(b",".join([quoted(election.id(group.project)), *(b"%d" % cell for cell in cells)]))
+    return b"".join(each + b"\n" for each in lines)
+
+
 def answer_or_refusal(work, paths, mode, outcome):
     try:
         return work(paths, mode, outcome)
@@ -270,18 +323,24 @@ def answer_or_refusal(work, paths, mode, outcome):
         return refusal.line, REFUSED
 
 
-def answer(words):
-    """The text, the status and the notes on standard error for the words of a command line that is understood."""
-    command, paths, mode, outcome = (words[0] if words else "read"), [], set(), None
-    commands, words = Commands(), iter(words[1:])
+def words_apart(words):
+    """The command, the paths, the options of a mode, the outcome file, and the words behind other options."""
+    command, paths, mode, valued = (words[0] if words else "read"), [], set(), {}
+    words = iter(words[1:])
     for word in words:
-        if word == "--outcome":
-            outcome = next(words)
-        elif word == "--language":
-            commands.language = next(words)
-        elif word in MODE and command in WITH_MODE:
+        if word in VALUED:
+            valued[word] = next(words)
+        elif word == GROUPS or (word in MODE and command in WITH_MODE):
             mode.add(word)
         else:
             paths.append(word)
+    outcome = valued.pop("--outcome", None)
+    return command, paths, mode, outcome, valued
+
+
+def answer(words):
+    """The text, the status and the notes on standard error for the words of a command line that is understood."""
+    command, paths, mode, outcome, others = words_apart(words)
+    commands = Commands(others.get("--language", "en"), others.get("--satisfaction", "cost"))
     text, status = answer_or_refusal(getattr(commands, command), paths, mode, outcome)
     return text, status, commands.beside

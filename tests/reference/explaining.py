@@ -1,7 +1,7 @@
 """The lines of 'explain', each in fractions: what every condition or test comes to."""
 from fractions import Fraction
 
-from . import conditions, refutations, violations
+from . import conditions, group_figures, refutations, violations
 
 MILLION = 10**6
 
@@ -179,7 +179,9 @@ def refutation_lines(weighing):
         name = weighing.election.id(failing[0][0][1]).decode()
         sentences = [f"the row of project {name} doesn't fit whether it is funded{how_many('such rows', failing[0])}"]
     counted, taken = weighing.u2_sums()
-    sentences.append(f"the weights count at most {counted} voter budgets, and take {taken}")
+    form = " if prices are stable" if weighing.stable else ""
+    end = f"; for all prices they count at most {weighing.spending(False)}" if weighing.stable else ""
+    sentences.append(f"the weights count at most {counted} voter budgets{form}, and take {taken}{end}")
     paid, owed = weighing.u3_sums()
     # What is below 0 on one side stands on the other.
     most = weighing.cost_of_most()
@@ -211,3 +213,26 @@ def group_lines(claim, mode):
         yield (f"nearest to that comes project {claim.election.id(project).decode()}: the share of its {supporters} "
                f"supporters is {amount(claim.share(project))}, it costs {amount(claim.cost(project))}, and "
                f"{amount(claim.funded_for(project))} was funded for them")
+
+
+def shown_group_lines(election, funded, measure):
+    """The group that is shown of groups that fall short: the largest for the first project for which one does, or the closest."""
+    group = group_figures.shown(group_figures.of_all(election, funded, measure == "cost"))
+    if group is None:
+        yield "nobody approves a project that isn't funded, so there is no group to show"
+        return
+    share, need = Fraction(group.voters * election.limit, len(election.ballots) * MILLION), Fraction(group.need, MILLION)
+    most, sum_of = {
+        "cost": (amount(Fraction(group.most, MILLION)), "the cost of the project and the most that a member got"),
+        "count": (group.most, "the cost of the project, for each one that a member got at most and once more"),
+    }[measure]
+    cost = amount(Fraction(election.costs[group.project], MILLION))
+    yield (f"Project     {group.supporters} of {len(election.ballots)} voters approve project "
+           f"{election.id(group.project).decode()}, which costs {cost}")
+    yield f"Group       {group.voters} of these: all who got at most {most} by {measure}"
+    yield f"Need        {amount(need)}: {sum_of}"
+    yield f"Share       {amount(share)}: the equal part of the limit for so many voters"
+    if group.is_short:
+        yield f"Over        {amount(share - need)}: the share is enough, so the group falls short"
+    else:
+        yield f"Missing     {amount(need - share)}: no group falls short, and this one comes closest"

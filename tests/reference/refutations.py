@@ -1,14 +1,16 @@
 """The tests of a refutation, each as it is worded: whole sets of voters and projects, and sums over them."""
+import bisect
 from fractions import Fraction
 
 MILLION = 10**6
 
 
 class Weighing:
-    """The weights of a refutation, beside an election and an outcome: what the tests speak of."""
+    """The weights of a refutation, of all prices or of stable ones, beside an election and an outcome: what the tests speak
+    of."""
 
-    def __init__(self, election, funded, refutation):
-        self.election, self.funded, self.refutation = election, funded, refutation
+    def __init__(self, election, funded, refutation, stable=False):
+        self.election, self.funded, self.refutation, self.stable = election, funded, refutation, stable
         self.unfunded = set(election.projects) - funded
 
     def weight(self, project):
@@ -30,6 +32,19 @@ class Weighing:
         approved = self.election.ballot(voter) & self.funded
         return max([0] + [self.signed(project) + self.wanted(voter) for project in approved])
 
+    def stable_worth(self, voter):
+        """The same by stable prices, none of which is more than the voter offers: the least whole number such that what the
+        funded projects that it approves count for above that, added up, is at most that number, and at most what the voter
+        wants."""
+        wanted = self.wanted(voter)
+        worths = [self.signed(project) + wanted for project in self.election.ballot(voter) & self.funded]
+
+        def is_enough(number):
+            return sum(max(0, worth - number) for worth in worths) <= min(number, wanted)
+
+        # Where a number is enough, all above it are, and the largest is.
+        return bisect.bisect_left(range(max([0] + worths)), True, key=is_enough)
+
     def cost(self, project):
         return Fraction(self.election.costs[project], MILLION)
 
@@ -39,11 +54,15 @@ class Weighing:
     def supporters(self, project):
         return len(self.election.supporters(project))
 
+    def spending(self, stable):
+        """What the budgets of all voters count for, with Cover."""
+        voters = self.election.voters
+        worth = self.stable_worth if stable else self.worth
+        return sum(worth(voter) for voter in voters) + len(voters) * self.refutation.cover
+
     def u2_sums(self):
         """The two sums that U2 compares."""
-        voters = self.election.voters
-        spending = sum(self.worth(voter) for voter in voters) + len(voters) * self.refutation.cover
-        return spending, sum(self.weight(project) * self.supporters(project) for project in self.unfunded)
+        return self.spending(self.stable), sum(self.weight(project) * self.supporters(project) for project in self.unfunded)
 
     def u3_sums(self):
         """The two sums that U3 compares, in the currency."""
@@ -83,10 +102,10 @@ def u3(weighing):
 TESTS = [("U1", u1), ("U2", u2), ("U3", u3)]
 
 
-def first_failure(election, funded, refutation):
-    """The first test that fails, with its first culprit; None where no prices support the outcome, or with a weight of
-    Cover none whose budgets together are more than the limit."""
-    weighing = Weighing(election, funded, refutation)
+def first_failure(election, funded, refutation, stable=False):
+    """The first test that fails, with its first culprit; None where no prices support the outcome, or no stable ones, or with
+    a weight of Cover none whose budgets together are more than the limit."""
+    weighing = Weighing(election, funded, refutation, stable)
     for name, culprits_of in TESTS:
         culprits = culprits_of(weighing)
         if culprits:

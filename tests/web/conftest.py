@@ -19,10 +19,19 @@ from visiting import Visit  # noqa: E402
 
 
 @pytest.fixture(scope="session")
-def packed(page, program, tmp_path_factory):
-    """The package for JavaScript, made of the page's module and the program's help."""
+def command_module(page):
+    """The program as a module, or a package that has it. It lies beside the page."""
+    found = [*page.parent.glob("pbaudit.wasm"), *page.parent.glob("pbaudit-*.tgz")]
+    if not found:
+        pytest.skip(f"no pbaudit.wasm lies beside {page}")
+    return found[0]
+
+
+@pytest.fixture(scope="session")
+def packed(page, command_module, tmp_path_factory):
+    """The package for JavaScript, made of the page's module and the program's."""
     folder = tmp_path_factory.mktemp("packed")
-    subprocess.run([TOP / "packaging" / "javascript", page, program, folder], stdout=subprocess.DEVNULL, check=True)
+    subprocess.run([TOP / "packaging" / "javascript", page, command_module, folder], stdout=subprocess.DEVNULL, check=True)
     return next(folder.iterdir())
 
 
@@ -115,10 +124,12 @@ def opened(browser, address, program, tmp_path):
 
 def of_its_own(start, address, program, room, **how):
     browser = start(**how)
-    visit = Visit(browser, address, program, room)
-    visit.open()
-    yield visit
-    browser.close()
+    try:
+        visit = Visit(browser, address, program, room)
+        visit.open()
+        yield visit
+    finally:
+        browser.close()
 
 
 @pytest.fixture

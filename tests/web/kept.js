@@ -13,21 +13,20 @@ function exportsOf(...names) {
   return exported.exports;
 }
 
-const { Auditor, Keeper, MOST_KEPT, OutOfMemory, hintOn } = exportsOf("auditor", "keeper", "refusals", "statuses");
+const { Auditor, Keeper, MOST_KEPT, OutOfMemory, isPage } = exportsOf("auditor", "commands", "keeper", "statuses");
 const module_ = new WebAssembly.Module(fs.readFileSync(process.argv[2]));
 const file = name => fs.readFileSync(path.join(process.argv[3], name));
 const mode = { stable: true, exhaustive: true, cover: false };
 const HEAD = "META\nkey;value\nbudget;9\nvote_type;approval\nPROJECTS\nproject_id;cost;selected\na;9;1\nVOTES\nvoter_id;vote\n";
 
-/** Asks a command of these files, and why one was refused. */
+/** Asks a command of these files. */
 function ask(auditor, command, files) {
   const places = Object.entries(files).map(([role, bytes]) => [role, auditor.put(bytes)]);
   const names = Object.fromEntries(["election", "outcome", "certificate"].map(role => [role, auditor.putText(role)]));
   const asked = { files: Object.fromEntries(places), names, mode, language: auditor.putText("de") };
-  const { status, bytes, facts } = auditor.ask(command, asked);
-  if (status === 4) throw new OutOfMemory();
-  const hint = facts.fault && hintOn(auditor, command, asked, facts.fault);
-  return { status, text: Buffer.from(bytes).toString(), facts, hint };
+  if (isPage(command)) return auditor.page(command, asked);
+  const { status, text, object, beside } = auditor.report(command, asked);
+  return { status, text: Buffer.from(text).toString(), object, beside };
 }
 
 const election = file("district.pb"), certificate = file("district.prices.csv"), violation = file("district.violation.csv");
@@ -49,7 +48,7 @@ const BEFORE = {
   "a large election": auditor => ask(auditor, "read", { election: large(3 << 20) }),
   "a file that is too large to be kept": auditor => ask(auditor, "read", { election: Buffer.alloc(MOST_KEPT, "x") }),
   "room that isn't there": auditor => auditor.room(2 ** 33),
-  "a trap": auditor => auditor.ask("read", { files: { election: { at: 2n ** 32n - 9n, length: 99n } }, names: {}, mode }),
+  "a trap": auditor => auditor.report("read", { files: { election: { at: 2n ** 32n - 9n, length: 99n } }, names: {}, mode }),
   "an exception": () => JSON.parse("{"),
 };
 

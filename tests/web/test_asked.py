@@ -3,11 +3,11 @@ prices that the page looks for as somebody asks."""
 import csv
 import shutil
 
-import browsers
 import pytest
 
+from downloaded import saved
 from tables import EXAMPLES
-from visiting import CHOOSE, sentence
+from visiting import CHOOSE, IS_LISTED, sentence
 
 pytestmark = pytest.mark.parametrize("address", ["disk"], indirect=True)
 LANGUAGES = ("en", "pl", "de", "fr")
@@ -36,15 +36,25 @@ def prices(budget):
 
 
 def row(opened, name):
+    """The row of a file, which may be on its way to the list, once all is answered."""
+    opened.browser.wait(IS_LISTED, name, name)
     opened.answers()
     return opened.browser.ask(ROWS)[name]
 
 
+def saved_list(opened):
+    """The list that is saved, by the certificates."""
+    path = saved(opened.browser, lambda: opened.browser.click("#save-list"), "audits.csv")
+    return {each["certificate"]: each for each in csv.DictReader(path.read_text(encoding="utf-8-sig").splitlines())}
+
+
 def show(opened, *paths):
-    """Gives files, and waits until the election that is alone is shown."""
+    """Gives files, waits until the election that is alone is shown, and unfolds it, which shows what to ask of prices."""
     opened.give(*paths)
     opened.browser.wait(SHOWN, "the election")
     opened.answers()
+    opened.browser.ask("document.querySelector('#election-open').open = true")
+    opened.browser.wait("return !document.querySelector('#options').hidden", "what to ask of prices")
 
 
 def look(opened, button="Look for prices", place="#making"):
@@ -53,7 +63,7 @@ def look(opened, button="Look for prices", place="#making"):
     opened.answers()
 
 
-def test_a_search_asks_its_own_certificate_alone(opened, downloads):
+def test_a_search_asks_its_own_certificate_alone(opened):
     """B could be added to `room`. So nothing is found before that isn't asked, and of no other certificate that is asked
     less."""
     room = opened.new_room()
@@ -71,7 +81,7 @@ def test_a_search_asks_its_own_certificate_alone(opened, downloads):
     told = opened.text("#looked")
     assert "B could be added" in told and "failed Exhaustive project b" in told
     assert "room.found.prices.csv" not in opened.text("#audit-list")
-    look(opened, "Look for prices without asking “Nothing left affordable”", "#looked")
+    look(opened, "Look for prices without asking for “Nothing left affordable”", "#looked")
     opened.browser.wait("return document.querySelector('.made')", "the prices")
     assert row(opened, "room.found.prices.csv")[:3] == ["Yes", "Fair by prices", NOT_EXHAUSTIVE]
     assert row(opened, "school.prices.csv") == ["No", "Not shown to be fair by these prices", USUAL, None]
@@ -79,16 +89,13 @@ def test_a_search_asks_its_own_certificate_alone(opened, downloads):
     totals = opened.text("#totals")
     assert "1, don't support it: 0 (asked: Plain form)." in totals
     assert "0, don't support it: 1 (asked: Plain form, Nothing left affordable)." in totals
-    opened.browser.click("#save-list")
-    saved = browsers.until(lambda: (downloads / "audits.csv").exists() and downloads / "audits.csv", 20, "the list")
-    rows = {each["certificate"]: each for each in csv.DictReader(saved.read_text(encoding="utf-8-sig").splitlines())}
-    saved.unlink()
+    rows = saved_list(opened)
     assert {name: (each["answer"], each["of"], each["asked"]) for name, each in rows.items()} == {
         "room.found.prices.csv": ("Yes", "Fair by prices", "Plain form"),
         "school.prices.csv": ("No", "Not shown to be fair by these prices", "Plain form, Nothing left affordable")}
 
 
-def test_little_is_told_in_lists(opened, downloads):
+def test_little_is_told_in_lists(opened):
     opened.open()
     opened.give(EXAMPLES / "school.pb", EXAMPLES / "school.prices.csv", EXAMPLES / "school.refutation.csv")
     opened.answers(2)
@@ -97,10 +104,7 @@ def test_little_is_told_in_lists(opened, downloads):
     opened.browser.wait("return document.querySelector('#audit-list .groups')", "what the yes says of groups")
     assert row(opened, "school.prices.csv") == ["Yes", "Fair by prices", NOT_EXHAUSTIVE, LITTLE]
     assert "Yes to prices that says little: 1." in opened.text("#totals")
-    opened.browser.click("#save-list")
-    saved = browsers.until(lambda: (downloads / "audits.csv").exists() and downloads / "audits.csv", 20, "the list")
-    rows = {each["certificate"]: each for each in csv.DictReader(saved.read_text(encoding="utf-8-sig").splitlines())}
-    saved.unlink()
+    rows = saved_list(opened)
     assert rows["school.prices.csv"]["groups"] == LITTLE and rows["school.refutation.csv"]["groups"] == ""
 
 
@@ -168,4 +172,4 @@ def test_prices_in_the_stable_form(opened):
     look(opened)
     opened.browser.wait("return document.querySelector('.made')", "the prices")
     asked = "Asked: Stable form, Nothing left affordable. Not asked: Budgets beyond the limit."
-    assert row(opened, "town.found.prices.csv")[:3] == ["Yes", "Fair by prices", asked]
+    assert row(opened, "town.found.stable.prices.csv")[:3] == ["Yes", "Fair by prices", asked]

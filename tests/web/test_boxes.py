@@ -10,8 +10,9 @@ FILES = [EXAMPLES / "district.pb", EXAMPLES / "district.prices.csv"]
 # District's prices hold in the plain form and not in the stable one.
 WORDS = {False: "Yes", True: "No"}
 IS_STABLE = "return document.querySelector('#stable').checked"
+# A page that is kept is told so when it is shown again; a new one knows nothing of it.
 KEPT = "window.isKept = null; addEventListener('pageshow', event => { window.isKept = event.persisted; });"
-IS_KEPT = "return window.isKept === true"
+IS_KEPT, IS_SHOWN = "return window.isKept === true", "return window.isKept !== null"
 NO_ROWS = "return document.querySelectorAll('#audit-list > li').length === 0"
 # A browser that restores a box tells it to no script.
 RESTORE = "document.querySelector('#stable').checked = arguments[0];"
@@ -30,7 +31,7 @@ def load_again(opened):
     """As the key F5 does. WebDriver's own command has browsers forget what was ticked."""
     opened.browser.ask("window.isOld = true; setTimeout(() => location.reload());")
     is_new = "return window.isOld === undefined && document.querySelectorAll('#language option').length > 0"
-    opened.browser.wait(is_new, "the page, loaded again")
+    opened.browser.wait_for_another(is_new, "the page, loaded again")
 
 
 def leave_and_return(opened):
@@ -49,9 +50,10 @@ def test_restored(opened):
         opened.browser.click("#stable")
         agrees(opened, "before")
         again(opened)
+        opened.browser.wait(IS_SHOWN, f"the page {name}")
         if opened.browser.ask(IS_KEPT):
             agrees(opened, f"{name}, with a page that was kept")
-            opened.browser.click("#clear")
+            opened.browser.ask("document.querySelector('#clear').click()")
         opened.browser.wait(NO_ROWS, f"no audits {name}")
         opened.give(*FILES)
         agrees(opened, name)
@@ -91,5 +93,5 @@ def test_example(opened):
     assert opened.text("#files-head") == "Files (2)"
     for part in ("#is-example", "#example"):
         assert not opened.browser.ask(is_seen, part)
-    opened.browser.click("#clear")
+    opened.browser.ask("document.querySelector('#clear').click()")
     assert opened.browser.ask(is_seen, "#example")

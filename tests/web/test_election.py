@@ -5,6 +5,7 @@ import shutil
 import subprocess
 
 import browsers
+import downloaded
 import pytest
 
 EXAMPLES = pathlib.Path(__file__).resolve().parents[2] / "examples"
@@ -51,10 +52,11 @@ def text(browser, selector):
 
 
 def show(browser, *paths):
-    """Gives files, and waits until the election is shown."""
+    """Gives files, waits until the election is shown, and unfolds it."""
     browser.give("#files-input", *paths)
     browser.wait(IS_SHOWN, "the election")
     browser.wait(IS_DONE, "the audits")
+    browser.ask("document.querySelector('#election-open').open = true")
 
 
 def done(browser):
@@ -63,14 +65,14 @@ def done(browser):
 
 def audited(browser, *wanted):
     """Waits until the auditor has answered so, in any order."""
-    browsers.until(lambda: sorted(browser.ask(AUDITS)) == sorted(map(list, wanted)), 120, f"the audits {wanted}")
+    browsers.until(lambda: sorted(browser.ask(AUDITS)) == sorted(map(list, wanted)), f"the audits {wanted}")
     done(browser)
 
 
-def saved(browser, name):
-    """The bytes of a file that the page has saved."""
-    path = browser.downloads / name
-    return browsers.until(lambda: path.is_file() and path.read_bytes(), 30, f"{name} among the downloads")
+def saved(browser, place, name, folder):
+    """A copy of the file that the page saves when its button is pressed."""
+    path = downloaded.saved(browser, lambda: browser.ask(PRESS, place, f"Save {name}"), name)
+    return shutil.copy(path, folder / "found.csv")
 
 
 def test_what_the_file_says(visit):
@@ -127,9 +129,7 @@ def test_prices_from_a_bare_election(visit, program, tmp_path):
     audited(visit, ("district.found.prices.csv", "Yes"))
     assert "The prices support this outcome" in text(visit, "#audit-list")
     assert "Its answer stands under “Audits”" in text(visit, "#looked")
-    visit.ask(PRESS, "#looked", "Save district.found.prices.csv")
-    certificate = tmp_path / "found.csv"
-    certificate.write_bytes(saved(visit, "district.found.prices.csv"))
+    certificate = saved(visit, "#looked", "district.found.prices.csv", tmp_path)
     words = [program, "prices", DISTRICT, certificate, "--cover"]
     told = subprocess.run(words, stdout=subprocess.PIPE, text=True, check=False)
     assert told.stdout == "supported priceable\n"
@@ -170,9 +170,7 @@ choice.dispatchEvent(new Event('change'));""")
     visit.ask(PRESS, "#looked", "Make a violation certificate")
     visit.wait("return document.querySelector('#looked .made')", "the certificate")
     audited(visit, ("district.found.violation.csv", "Yes"))
-    visit.ask(PRESS, "#looked", "Save district.found.violation.csv")
-    certificate = tmp_path / "found.csv"
-    certificate.write_bytes(saved(visit, "district.found.violation.csv"))
+    certificate = saved(visit, "#looked", "district.found.violation.csv", tmp_path)
     words = [program, "violation", DISTRICT, certificate, "--outcome", outcome]
     assert subprocess.run(words, stdout=subprocess.PIPE, text=True, check=False).stdout == "violation\n"
 
@@ -192,15 +190,60 @@ def write(path, *rows, votes=(), budget=10):
     return path
 
 
-def test_no_prices_and_how_a_refutation_is_made(visit, tmp_path):
+def accepted(visit, program, folder, path, name, *options):
+    """What the proved program says of a certificate that the page saves under "Check further"."""
+    certificate = saved(visit, "#looked", name, folder)
+    command = "prices" if name.endswith("prices.csv") else "refutation"
+    told = subprocess.run([program, command, path, certificate, *options], stdout=subprocess.PIPE, text=True, check=False)
+    return told.stdout.rstrip("\n")
+
+
+def test_no_prices_but_a_refutation(visit, program, tmp_path):
     """The supporter of `a` needs a budget of 4, so that those of `b` have 8 left, which costs 7."""
     path = write(tmp_path / "none.pb", "a;4;A;1", "b;7;B;0", votes=["1;a", "2;b", "3;b"])
     show(visit, path)
     visit.ask(PRESS, "#making", "Look for prices")
-    visit.wait("return document.querySelector('#looked').textContent", "that none were found")
-    assert "doesn't prove that there are none" in text(visit, "#looked")
-    assert text(visit, "#looked code") == "python -m pbaudit find NAME.pb"
-    assert visit.ask(AUDITS) == [["none.pb", "Read"]]
+    visit.wait("return document.querySelector('#looked .made')", "the refutation")
+    told = text(visit, "#looked")
+    assert "A refutation was found" in told and "“No prices can support this outcome”" in told
+    audited(visit, ("none.found.refutation.csv", "Yes"))
+    assert accepted(visit, program, tmp_path, path, "none.found.refutation.csv") == "unpriceable"
+
+
+def two(path):
+    """Two pay 4 for `a`, so that one of them pays 2 or more, and would rather pay that for `c`."""
+    return write(path, "a;4;A;1", "c;1;C;0", votes=["1;a,c", "2;a,c"])
+
+
+def test_a_refutation_of_stable_prices(visit, program, tmp_path):
+    """It is asked as one of stable prices, whatever is ticked."""
+    path = two(tmp_path / "two.pb")
+    show(visit, path)
+    visit.ask("for (const id of ['stable', 'exhaustive']) document.querySelector(`#${id}`).click();")
+    visit.ask(PRESS, "#making", "Look for prices")
+    visit.wait("return document.querySelector('#looked .made')", "the refutation")
+    assert "“No stable prices can support this outcome”" in text(visit, "#looked")
+    audited(visit, ("two.found.stable.refutation.csv", "Yes"))
+    visit.ask("document.querySelector('#stable').click()")
+    audited(visit, ("two.found.stable.refutation.csv", "Yes"))
+    assert "No stable prices can support this outcome" in text(visit, "#audit-list")
+    name = "two.found.stable.refutation.csv"
+    assert accepted(visit, program, tmp_path, path, name, "--stable") == "unpriceable stable"
+
+
+def test_both_forms_are_looked_for(visit, program, tmp_path):
+    """By "Check further": there are plain prices, without Cover, and no stable ones. To the voters, who both approve `a` and `c`, the
+    limit would give both, so that there are violations as well: two projects for one, and 5 for 4."""
+    path = two(tmp_path / "both.pb")
+    show(visit, path)
+    visit.ask("document.querySelector('#check-further').click()")
+    visit.wait("return document.querySelector('#looked').textContent.includes('That is all')", "the end of the search")
+    kinds = ("prices", "stable.refutation", "violation", "cost.violation")
+    audited(visit, *[(f"both.found.{kind}.csv", "Yes") for kind in kinds])
+    told = text(visit, "#looked")
+    assert "could be added within the budget limit" in told and "Neither prices nor a refutation" not in told
+    name = "both.found.stable.refutation.csv"
+    assert accepted(visit, program, tmp_path, path, name, "--stable") == "unpriceable stable"
 
 
 def test_an_outcome_that_costs_too_much(visit, tmp_path):
@@ -220,9 +263,7 @@ def test_a_project_that_nobody_approves(visit, program, tmp_path):
     visit.wait("return document.querySelector('#looked .made')", "the refutation")
     assert "Nobody's is funded and nobody approves it" in text(visit, "#looked")
     audited(visit, ("never.found.refutation.csv", "Yes"))
-    visit.ask(PRESS, "#looked", "Save never.found.refutation.csv")
-    certificate = tmp_path / "found.csv"
-    certificate.write_bytes(saved(visit, "never.found.refutation.csv"))
+    certificate = saved(visit, "#looked", "never.found.refutation.csv", tmp_path)
     told = subprocess.run([program, "refutation", path, certificate], stdout=subprocess.PIPE, text=True, check=False)
     assert told.stdout == "unpriceable\n"
 
@@ -258,7 +299,7 @@ def test_other_files_leave_a_search_alone(visit, tmp_path):
     assert visit.ask(IS_LOOKING)
     assert visit.ask("return document.querySelector('#election-remark').hidden")
     visit.ask("document.querySelector('#stop-looking').click()")
-    visit.wait("return document.querySelector('#looking').hidden", "the end of the search", 20)
+    visit.wait("return document.querySelector('#looking').hidden", "the end of the search")
     assert "stopped. No group was found." in text(visit, "#looked")
 
 
@@ -345,7 +386,7 @@ choice.dispatchEvent(new Event('change'));"""
         visit.ask(choose, place)
         visit.wait(f"return document.querySelectorAll('#projects tbody tr').length === {count}", "its projects")
     visit.give("#files-input", EXAMPLES / "sample.pb", EXAMPLES / "sample.prices.csv")
-    audited(visit, ("one.pb", "Read"), ("two.pb", "Read"), ("sample.prices.csv", "Yes"))
+    audited(visit, ("one.pb", "Proved"), ("two.pb", "Proved"), ("sample.prices.csv", "Yes"))
     for place, count in ((3, 3), (2, 1), (1, 12)):
         visit.ask(choose, place)
         visit.wait(f"return document.querySelectorAll('#projects tbody tr').length === {count}", "its projects")
@@ -398,9 +439,7 @@ def test_a_refutation_of_a_group_whose_share_was_enough(visit, program, tmp_path
     audited(visit, ("passed.found.violation.csv", "Yes"))
     visit.ask(PRESS, "#group", "Have it checked")
     audited(visit, ("passed.found.refutation.csv", "Yes"), ("passed.found.violation.csv", "Yes"))
-    visit.ask(PRESS, "#group", "Save passed.found.refutation.csv")
-    certificate = tmp_path / "found.csv"
-    certificate.write_bytes(saved(visit, "passed.found.refutation.csv"))
+    certificate = saved(visit, "#group", "passed.found.refutation.csv", tmp_path)
     told = subprocess.run([program, "refutation", path, certificate], stdout=subprocess.PIPE, text=True, check=False)
     assert told.stdout == "unpriceable cover\n"
 
@@ -411,7 +450,7 @@ def test_a_search_is_stopped(visit, tmp_path):
     searching(visit)
     assert visit.ask("return document.activeElement.id") == "stop-looking"
     visit.ask("document.querySelector('#stop-looking').click()")
-    visit.wait("return document.querySelector('#looking').hidden", "the end of the search", 20)
+    visit.wait("return document.querySelector('#looking').hidden", "the end of the search")
     assert "stopped. No group was found." in text(visit, "#looked")
     assert "doesn't prove that there is none" in text(visit, "#looked")
     assert visit.ask("return document.activeElement.id") == "look-for-groups"

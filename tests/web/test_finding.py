@@ -1,5 +1,5 @@
-"""What the page's scripts find on invented elections: everything that is found is accepted by the proved program, and
-prices are found where the Python package's water-filling finds some.
+"""What the page's scripts find on invented elections: everything that is found is accepted by the proved program, and each
+search for prices ends in some or in a refutation, which the best margin by another programme agrees with.
 
 PBAUDIT_ELECTIONS says how many are invented.
 """
@@ -7,7 +7,6 @@ import json
 import os
 import pathlib
 import subprocess
-from fractions import Fraction
 
 import finding_cases
 import pytest
@@ -63,15 +62,28 @@ def is_exhaustive(case):
     return all(spent + case.costs[at] > case.limit for at in case.unfunded)
 
 
+def forms_in(each):
+    """What was found of prices in each form: plain and stable, with Cover and without."""
+    return {(form["stable"], form["cover"]): form for form in each["forms"]}
+
+
+def is_feasible(case):
+    return sum(case.costs[at] for at in case.funded) <= case.limit
+
+
 def test_all_that_is_found_is_accepted(program, room, towns, found):
-    tally = dict.fromkeys(["prices", "cover", "count", "cost"], 0)
+    tally = dict.fromkeys(["prices", "stable prices", "cover", "count", "cost"], 0)
     for name, case in towns.items():
         each = found[name]
-        if "prices" in each:
-            options = ["--cover"] * each["cover"] + ["--no-exhaustive"] * (not is_exhaustive(case))
-            assert line_of(program, room, "prices", name, each["prices"], *options) == "supported priceable", case.name
-            tally["prices"] += 1
-            tally["cover"] += each["cover"]
+        for (stable, cover), form in forms_in(each).items():
+            if "prices" not in form:
+                continue
+            options = ["--cover"] * form["isCovered"] + ["--no-exhaustive"] * (not is_exhaustive(case)) + ["--stable"] * stable
+            wanted = "supported stable" if stable else "supported priceable"
+            assert line_of(program, room, "prices", name, form["prices"], *options) == wanted, case.name
+            assert form["isCovered"] or not cover
+            tally["stable prices" if stable else "prices"] += 1
+            tally["cover"] += form["isCovered"]
         for measure in ("count", "cost"):
             if "violation" in each[measure]:
                 assert line_of(program, room, "violation", name, each[measure]["violation"]) == "violation", case.name
@@ -79,29 +91,47 @@ def test_all_that_is_found_is_accepted(program, room, towns, found):
     assert min(tally.values()) >= SEEDS // 4, tally
 
 
-def test_prices_where_water_filling_of_the_package_finds_some(room, towns, found):
-    pytest.importorskip("scipy")
-    from pbaudit.finding import clock, groups, shares, water
-    from pbaudit.town import Town
-
-    missed, both = [], 0
+def test_refutations_are_accepted(program, room, towns, found):
+    tally = dict.fromkeys(["unpriceable", "unpriceable cover", "unpriceable stable", "unpriceable stable cover"], 0)
     for name, case in towns.items():
-        town = Town([f"p{at}" for at in range(len(case.costs))], list(map(Fraction, case.costs)), Fraction(case.limit),
-                    case.funded, case.ballots)
-        problem = shares.problem_of(town, groups.groups_of(town))
-        if shares.unpaid(problem) is not None or sum(case.costs[at] for at in case.funded) > case.limit:
-            assert "prices" not in found[name], case.name
-            continue
-        for cover in (True, False):
-            payments, _ = water.by_water(problem, shares.Need(False, cover), clock.Clock(60))
-            if payments is None:
+        for (stable, cover), form in forms_in(found[name]).items():
+            if "refutation" not in form:
                 continue
-            if not found[name].get("prices") or cover and not found[name]["cover"]:
-                missed.append((case.name, cover, found[name]["why"]))
-            both += 1
-            break
-    assert not missed, missed
-    assert both > SEEDS
+            line = line_of(program, room, "refutation", name, form["refutation"], *["--stable"] * form["ofStable"])
+            assert line == "unpriceable" + " stable" * form["ofStable"] + " cover" * form["ofCover"], case.name
+            assert (stable or not form["ofStable"]) and (cover or not form["ofCover"])
+            tally[line] += 1
+    # Where there are stable prices and none with Cover, plain ones with Cover are mostly refuted too.
+    assert tally.pop("unpriceable stable cover") > 0 and min(tally.values()) >= SEEDS // 4, tally
+
+
+def test_each_search_ends(towns, found):
+    """In prices or in a refutation, where the outcome keeps to the limit; and where Cover is met, in no less without it."""
+    for name, case in towns.items():
+        forms = forms_in(found[name])
+        for (stable, cover), form in forms.items():
+            wanted = ("found", "refuted", "unpaid") if is_feasible(case) else ("infeasible",)
+            assert form["says"] in wanted, (case.name, stable, cover, form["says"])
+        for stable in (False, True):
+            assert forms[stable, True]["says"] != "found" or forms[stable, False]["isCovered"], case.name
+        assert forms[True, True]["says"] != "found" or forms[False, True]["says"] == "found", case.name
+
+
+def test_it_ends_as_another_programme_does(towns, found):
+    """Where the best margin isn't next to nothing, voter by voter and by HiGHS."""
+    pytest.importorskip("scipy")
+    seen = set()
+    for name, case in list(towns.items())[:120]:
+        if not is_feasible(case) or len(case.ballots) > 30:
+            continue
+        for (stable, cover), form in forms_in(found[name]).items():
+            margin = finding_cases.best_margin(case, stable, cover)
+            if margin is not None and abs(margin) < 1e-4:
+                continue
+            is_found = margin is not None and margin > 0
+            assert (form["says"] == "found") == is_found, (case.name, stable, cover, margin)
+            seen.add((stable, cover, is_found))
+    assert len(seen) == 8, seen
 
 
 def weight_of(text):
@@ -132,6 +162,6 @@ def test_refutations_refute_by_their_definition(towns, found):
             paid = sum(weight * case.costs[project] for project, weight in sign.items()) + cover * case.limit
             assert paid >= sum(weight * case.costs[project] for project, weight in left.items())
             # No prices with Cover can be found then.
-            assert not found[name].get("cover"), case.name
+            assert all(form["says"] != "found" for (_, with_cover), form in forms_in(found[name]).items() if with_cover)
             refuted += 1
     assert refuted > SEEDS // 4

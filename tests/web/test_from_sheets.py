@@ -3,8 +3,8 @@ tables/sheets.txt has them; which files are taken for sheets; and that names and
 import shutil
 import subprocess
 
-import browsers
 import tables
+from downloaded import saved
 from tables import EXAMPLES
 
 HAS_FORM = "return !document.querySelector('#sheets-form').hidden"
@@ -36,24 +36,17 @@ def write(room, sheets):
     return [room / name for name in sheets]
 
 
-def saved(browser, name):
-    """The bytes of a file that the page has saved, which goes, so that another may have its name."""
-    path = browser.downloads / name
-    data = browsers.until(lambda: path.is_file() and path.read_bytes(), 30, f"{name} among the downloads")
-    path.unlink()
-    return data
-
-
 def make(browser, limit):
     browser.ask(TYPE, limit)
     browser.click("#make-election")
 
 
 def made(browser, name="election.pb"):
-    """The bytes of the election that was made."""
+    """The bytes of the election that was made, whatever its file is called where there is no name."""
     browser.wait(IS_MADE, "the election")
-    browser.click("#sheets-made button")
-    return saved(browser, name)
+    path = saved(browser, lambda: browser.click("#sheets-made button"), name)
+    assert path.suffix == ".pb"
+    return path.read_bytes()
 
 
 def give(opened, *paths):
@@ -73,7 +66,7 @@ def told_of(opened, limit):
     if opened.browser.ask(IN_SIGHT, "#sheets-wrong"):
         return [opened.text("#sheets-wrong")]
     election = made(opened.browser)
-    opened.browser.click("#clear")
+    opened.browser.ask("document.querySelector('#clear').click()")
     return election
 
 
@@ -104,7 +97,7 @@ def test_goes_on_as_if_it_had_been_dropped(opened, tmp_path):
     assert opened.browser.ask("return document.activeElement.textContent") == "Save sheet.pb"
     opened.speak("de")
     assert "aus Ihren Tabellen erstellt" in opened.text("#sheets-made")
-    opened.browser.click("#clear")
+    opened.browser.ask("document.querySelector('#clear').click()")
     assert not opened.browser.ask(IN_SIGHT, "#sheets")
 
 
@@ -121,6 +114,7 @@ def test_ticked_projects_are_funded(opened, tmp_path):
     assert b"\nPROJECTS\nproject_id;cost;name;selected\na;6;Park;0\nb;4;Library;1\nVOTES\n" in data
     (tmp_path / "made.pb").write_bytes(data)
     assert opened.says("read", "made.pb", folder=tmp_path) == "read 2 voters 2 projects 1 funded\n"
+    opened.answers(1)
     assert "Funded: 1." in opened.browser.ask("return document.querySelector('#audit-list').textContent")
 
 
@@ -171,7 +165,7 @@ def test_which_files_are_sheets(opened, tmp_path):
     assert told in opened.text("#notes") and not opened.browser.ask(IN_SIGHT, "#sheets")
     give(opened, ballots)
     assert opened.browser.ask(HAS_FORM) and opened.text("#notes") == ""
-    opened.browser.click("#clear")
+    opened.browser.ask("document.querySelector('#clear').click()")
     opened.give(projects, ballots, other)
     opened.browser.wait("return document.querySelector('#notes').textContent", "a note on three sheets")
     assert told in opened.text("#notes") and not opened.browser.ask(IN_SIGHT, "#sheets")
@@ -190,23 +184,15 @@ def test_what_sheets_hold_stays_text(opened, tmp_path):
     opened.browser.click("#sheets-ticked")
     assert evil in opened.text("#sheets-told") and opened.text("#sheets-projects li bdi") == evil
     make(opened.browser, "10")
-    data = made(opened.browser, name_of_download(opened.browser, f"{evil}.pb")).decode()
+    # A browser writes other letters where the name of a file can't have one.
+    data = made(opened.browser, name=None).decode()
     assert f"\n{evil};6;{evil};0\nVOTES\nvoter_id;vote\n1;{evil}\n" in data
-    opened.browser.click("#clear")
+    opened.browser.ask("document.querySelector('#clear').click()")
     (tmp_path / f"{evil} b.csv").write_text("voter;projects\n1;\u202e<b>x</b>,\u05d0\n", encoding="utf-8")
     give(opened, *(tmp_path / name for name in names))
     assert opened.browser.ask(FAULTS) == [f"{evil} b.csv, row 2: “\\u{{202e}}<b>x</b>” isn't the id of a project."]
     assert opened.browser.ask("return document.querySelectorAll('#sheets img, #sheets b, #notes img').length") == 0
     assert opened.browser.ask("return document.title") != "1"
-
-
-def name_of_download(browser, name):
-    """A browser writes other letters where a name of a file can't have one: the name of the only new file."""
-    browser.wait(IS_MADE, "the election")
-    browser.click("#sheets-made button")
-    path = browsers.until(lambda: [each for each in browser.downloads.iterdir() if each.suffix == ".pb"], 30, name)[0]
-    path.unlink()
-    return path.name
 
 
 def test_the_script_that_reads_sheets_crashes(opened, tmp_path):

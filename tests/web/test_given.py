@@ -24,8 +24,8 @@ ELECTION = (EXAMPLES / "sample.pb").read_text(encoding="utf-8")
 # The ways in which a file of each kind may begin (docs/FORMATS.md, Records), under a name that says nothing.
 BEGINNINGS = {
     "election": [ELECTION, ELECTION.replace("META", "meta"), ELECTION.replace("META", '"Meta" ;;'),
-                 "\n" * 5000 + ELECTION, ";;\n" * 3000 + ELECTION, "\ufeff\ufeff" + ELECTION, "META\n"],
-    "price certificate": [PRICES, PRICES.replace("pb-prices,1", '"pb-prices", 1 ,,'), "\r\n" * 5000 + PRICES,
+                 "\n" * 5000 + ELECTION, "\n" * 20_000 + ELECTION, ";;\n" * 3000 + ELECTION, "\ufeff\ufeff" + ELECTION, "META\n"],
+    "price certificate": [PRICES, PRICES.replace("pb-prices,1", '"pb-prices", 1 ,,'), "\r\n" * 5000 + PRICES, "\r\n" * 10_000 + PRICES,
                           "\t\n , \n" + PRICES, "pb-prices,1\rdenominator"],
     "violation certificate": ["pb-violation,1\n", '"pb-violation","1"\nproject,a\n', "\ufeff\n\npb-violation,2\n"],
     "outcome": ["pb-outcome,1\n", "\n\n\"pb-outcome\",1\nproject,a\n"],
@@ -46,7 +46,7 @@ def test_kinds(opened):
     opened.open()
     for count, name in enumerate(wanted, 1):
         opened.give(room / name)
-        browsers.until(lambda: opened.browser.ask(LISTED, count), 20, f"{name} in the list")
+        opened.browser.wait(LISTED, f"{name} in the list", count)
     assert dict(map(tuple, opened.browser.ask(KINDS))) == wanted
 
 
@@ -60,7 +60,8 @@ def test_kind_by_name(opened):
     opened.open()
     opened.give(*sorted(room.iterdir()))
     assert ("a.prices.csv", "Yes", "violation") in opened.answers(2)
-    assert opened.text("#totals") == "Violation proved: 1, not proved: 0. Without a certificate: 1."
+    assert opened.text("#totals") == (
+        "Elections in which a group of voters falls short: 0, in which none does: 1. Violation proved: 1, not proved: 0.")
     colour = "return document.querySelector('#audit-list .badge').className"
     assert opened.browser.ask(colour) == "badge bad"
     opened.browser.click("[aria-label='Show the answer on a.prices.csv']")
@@ -78,7 +79,7 @@ def test_colours(opened):
         assert [each[:2] for each in opened.answers(1)] == [(f"district.{certificate}.csv", word)]
         badge = opened.browser.ask("return document.querySelector('#audit-list .badge').className")
         assert badge == f"badge {wanted}"
-        opened.browser.click("#clear")
+        opened.browser.ask("document.querySelector('#clear').click()")
 
 
 def test_other_names(opened):
@@ -96,7 +97,7 @@ def test_other_names(opened):
     row, wanted = opened.browser.ask(ROW, 1), "Election: district.pb. Funded projects: as the election says."
     assert wanted in row
     opened.give(room / "winners.csv")
-    browsers.until(lambda: opened.browser.ask(LISTED, 3), 20, "the outcome in the list")
+    opened.browser.wait(LISTED, "the outcome in the list", 3)
     assert opened.answers(1) == [("claim.prices.csv", "\u2013", None)]
     opened.choose(OUTCOME_CHOICE, "winners.csv")
     words = ["prices", "district.pb", "district.prices.csv", "--outcome", "district.stable.outcome.csv"]
@@ -124,10 +125,11 @@ def test_one_name(opened):
     opened.browser.wait("return document.querySelector('.badge')?.textContent === 'Yes'", "the other election")
     assert [opened.text("#files-head"), opened.text("#notes")] == ["Files (2)", wanted]
     if isinstance(opened.browser, browsers.Chromium):
-        opened.browser.click("#clear")
+        opened.browser.ask("document.querySelector('#clear').click()")
         opened.give(EXAMPLES / "sample.pb", two / "a.pb")
         opened.answers(2)
         opened.browser.ask("document.querySelector('#replace-input').click = () => {}")
+        opened.browser.ask("document.querySelector('#files-open').open = true")
         opened.browser.click("[aria-label='Replace sample.pb']")
         opened.give(one / "a.pb", to="#replace-input")
         is_one = "return document.querySelector('#files-head').textContent === 'Files (1)'"
@@ -270,7 +272,7 @@ def test_names_shown(opened):
     assert "a\\u{202e}gpj.prices.csv" in opened.shown()
     about = "a\\u{202e}gpj.prices.csv, checked against a\\u{202e}gpj.pb"
     assert opened.text("#about") == about
-    opened.browser.click("#clear")
+    opened.browser.ask("document.querySelector('#clear').click()")
     for ending, text in ((".pb", ELECTION), (".prices.csv", PRICES)):
         (room / f"{HEBREW}{ending}").write_text(text, encoding="utf-8")
     opened.give(room / f"{HEBREW}.pb", room / f"{HEBREW}.prices.csv")
@@ -351,11 +353,11 @@ def test_refusals(opened):
         (room / name).write_text(text, encoding="utf-8", newline="")
     opened.open()
     for name in REFUSED:
-        opened.browser.click("#clear") if name != "a.prices.csv" else None
+        opened.browser.ask("document.querySelector('#clear').click()") if name != "a.prices.csv" else None
         opened.give(room / f"{name[0]}.pb", room / name)
         assert [each[:2] for each in opened.answers(1)] == [(name, "Refused")]
         refused_as(opened, room, name, "page")
-    opened.browser.click("#clear")
+    opened.browser.ask("document.querySelector('#clear').click()")
     opened.give(*sorted(room.iterdir()))
     opened.answers(len(REFUSED))
     for name in REFUSED:

@@ -1,48 +1,12 @@
 """What a caller of the package for JavaScript hands in: it is taken as what it plainly is, or a TypeError names it."""
-import json
 import re
-import subprocess
 
 import pytest
 
+import handing
 from common import TOP
-from tables import EXAMPLES
+from handing import CALLS, with_options
 
-# Evaluates an expression on each line of standard input, and writes what it comes to.
-CALLER = r"""
-import { readFileSync } from 'node:fs';
-import { createInterface } from 'node:readline';
-import vm from 'node:vm';
-import { auditor } from 'pbaudit';
-
-const a = await auditor(), file = name => readFileSync(`${process.argv[2]}/${name}`);
-const prices = file('school.prices.csv'), group = file('school.violation.csv');
-const whole = bytes => { const all = new Uint8Array(bytes.length); all.set(bytes); return all.buffer; };
-const shared = bytes => { const all = new SharedArrayBuffer(bytes.length); new Uint8Array(all).set(bytes); return all; };
-const inside = bytes => { const all = new Uint8Array(bytes.length + 16).fill(255); all.set(bytes, 8); return all.buffer; };
-// Its length can be divided by eight.
-const pb = Buffer.concat([file('school.pb'), Buffer.alloc(-file('school.pb').length & 7, '\n')]);
-const gone = () => { const all = whole(pb); structuredClone(all, { transfer: [all] }); return all; };
-const goneView = () => { const all = new Uint8Array(pb); structuredClone(all, { transfer: [all.buffer] }); return all; };
-const elsewhere = text => vm.runInNewContext(text, { pb });
-for await (const line of createInterface({ input: process.stdin })) {
-  let told;
-  try {
-    const { answer, text } = eval(JSON.parse(line));
-    told = { answer, text };
-  } catch (error) {
-    told = { error: error instanceof TypeError ? 'TypeError' : `${error}`, text: error.message };
-  }
-  console.log(JSON.stringify(told));
-}
-"""
-# A call of each kind, with a place for the options, and those of which prices are asked.
-CALLS = {
-    "read": "a.read(pb, {})", "prices": "a.prices(pb, prices, {})", "violation": "a.violation(pb, group, {})",
-    "refutation": "a.refutation(pb, file('school.refutation.csv'), {})", "both": "a.both(pb, prices, group, {})",
-    "explain": "a.explain(pb, prices, {})", "margins": "a.margins(pb, prices, {})", "tidy": "a.tidy(pb, prices, {})",
-    "page": "a.page(pb, prices, {})", "folder": "a.folder([['a.pb', pb], ['a.prices.csv', prices]], {})",
-}
 ON_PRICES = ("prices", "both", "explain", "page", "folder")
 NO_SWITCH = ["'true'", "'false'", "'yes'", "''", "{}", "[]", "0", "1", "2", "null", "NaN", "1n", "new Boolean(false)",
              "Symbol()", "() => true"]  # fmt: skip
@@ -50,7 +14,8 @@ NO_OPTIONS = ["null", "'stable'", "''", "[]", "[true]", "1", "0", "true", "false
               "new Date()", "() => ({})", "Promise.resolve({})", "new (class { stable = true })()",
               "Object.create({ stable: true })",
               "Object.create(Object.create(null, { stable: { value: true } }))"]  # fmt: skip
-FILES = {"read": ["election"], "both": ["election", "prices", "violation"]}
+ON_GROUPS = ("groups", "explainGroups", "groupMargins", "groupsPage")
+FILES = {"both": ["election", "prices", "violation"], **{call: ["election"] for call in ("read", *ON_GROUPS)}}
 NO_FILE = {"null": "null", "undefined": "undefined", "1": "1", "true": "true", "{}": "an Object", "[1, 2]": "an Array",
            "new Blob([pb])": "a Blob: await its arrayBuffer()", "Promise.resolve(pb)": "a Promise: await it",
            "new String('a')": "a String", "() => pb": "a function", "Symbol('x')": "Symbol(x)", "1n": "1",
@@ -66,16 +31,8 @@ NO_FOLDER = ["null", "undefined", "1", "'a.pb'", "{}", "{ 'a.pb': pb }", "['a.pb
 
 @pytest.fixture(scope="module")
 def evaluate(installed):
-    (installed / "handed.mjs").write_text(CALLER)
-    node = subprocess.Popen(["node", "handed.mjs", EXAMPLES], cwd=installed, stdin=subprocess.PIPE, stdout=subprocess.PIPE,
-                            text=True)  # fmt: skip
-
-    def by(expression):
-        print(json.dumps(expression), file=node.stdin, flush=True)
-        return json.loads(node.stdout.readline())
-    yield by
-    node.stdin.close()
-    node.wait()
+    with handing.evaluating(installed) as by:
+        yield by
 
 
 @pytest.fixture
@@ -87,10 +44,6 @@ def refuses(evaluate):
         assert [word for word in words if word not in told["text"]] == [], (expression, told)
         return told["text"]
     return by
-
-
-def with_options(call, options):
-    return CALLS[call][:-len("{})")] + options + ")"
 
 
 def test_each_call_is_tried():
@@ -112,6 +65,42 @@ def test_usual_calls_are_answered(evaluate, call):
 def test_switches_are_true_or_false(refuses, call, name):
     for value in NO_SWITCH:
         refuses(with_options(call, f"{{ {name}: {value} }}"), f"'{name}'", "true or false")
+
+
+def test_a_refutation_is_asked_about_stable_prices_by_true_or_false(evaluate, refuses):
+    call = CALLS["refutation"]
+    for value in NO_SWITCH:
+        refuses(with_options("refutation", f"{{ stable: {value} }}"), "'stable'", "true or false")
+    for name in ("exhaustive", "cover", "satisfaction"):
+        refuses(with_options("refutation", f"{{ {name}: true }}"), f"'{name}'")
+    # Weights that refute all prices refute stable ones, and the answer is the stronger one.
+    for options in ("{ stable: true }", "{ stable: false }", "{ stable: undefined }"):
+        assert evaluate(with_options("refutation", options)) == evaluate(call)
+
+
+@pytest.mark.parametrize("value", [*NO_SWITCH[:1], "'costs'", "'COST'", "''", "null", "true", "0", "['cost']", "{}",
+                                   "new String('cost')", "Symbol('cost')"])  # fmt: skip
+def test_other_measures_are_refused(refuses, value):
+    for call in ON_GROUPS:
+        refuses(f"a.{call}(pb, {{ satisfaction: {value} }})", "'satisfaction'", "cost or count")
+        refuses(f"a.{call}(pb, {{ measure: {value} }})", "'measure'")
+
+
+# Of school.pb: all 100 voters approve the school, for 90,000 of a limit of 100,000; ten have got the bench, for 100. With
+# the school funded, these ten have 10,000 for the bench, which by count they need twice.
+@pytest.mark.parametrize("options, wanted", [
+    ("{}", "failed EJR+ by cost voters 100 project school"),
+    ("{ satisfaction: undefined }", "failed EJR+ by cost voters 100 project school"),
+    ("{ satisfaction: 'cost' }", "failed EJR+ by cost voters 100 project school"),
+    ("{ satisfaction: 'count' }", "failed EJR+ by count voters 90 project school"),
+    ("{ satisfaction: 'count', outcome: 'pb-outcome,1\\nproject,school\\n' }", "failed EJR+ by count voters 10 project bench"),
+])  # fmt: skip
+def test_groups_are_asked_by_a_measure(evaluate, options, wanted):
+    assert evaluate(f"a.groups(pb, {options})")["text"] == f"{wanted}\n"
+    assert evaluate(f"a.explainGroups(pb, {options})")["text"].split("\n")[0] == wanted
+    assert evaluate(f"a.groupsPage(pb, {options})")["text"].count(f"<code>{wanted}</code>") == 1
+    measure = "count" if "'count'" in options else "cost"
+    assert evaluate(f"a.groupMargins(pb, {options})")["text"].startswith(f"pb-groups,1\nsatisfaction,{measure}\n")
 
 
 @pytest.mark.parametrize("options, wanted", [
@@ -136,7 +125,7 @@ def test_options_are_a_plain_object(refuses, call):
 def test_no_other_option_is_taken(refuses, call):
     refuses(with_options(call, "{ stabel: true }"), "'stabel'")
     refuses(with_options(call, "{ [Symbol('stable')]: true }"), "'Symbol(stable)'")
-    if call not in ON_PRICES:
+    if call not in (*ON_PRICES, "refutation"):
         refuses(with_options(call, "{ stable: true }"), "'stable'")
     refuses(with_options(call, "{}, { stable: true }"), call, "no more")
 
@@ -167,6 +156,8 @@ def test_names_are_texts(evaluate, refuses):
     for value in ("null", "1", "{}", "[]", "pb"):
         refuses(f"a.page(pb, prices, {{ names: {{ election: {value} }} }})", "'election'", "text")
     refuses("a.page(pb, prices, { names: { prices: 'a' } })", "'prices'")
+    refuses("a.groupsPage(pb, { names: { certificate: 'a' } })", "'certificate'", "those are election, outcome")
+    assert "first.pb" in evaluate("a.groupsPage(pb, { names: { election: 'first.pb' }, language: 'de' })")["text"]
     refuses("a.page(pb, prices, { names: { election: '\\ud800.pb' } })", "'election'", "surrogates")
     assert "first.pb" in evaluate("a.page(pb, prices, { names: { election: 'first.pb', outcome: undefined } })")["text"]
 
@@ -197,6 +188,22 @@ def test_other_things_are_no_files(refuses, call):
 def test_files_without_their_bytes_are_refused(refuses, value, word):
     refuses(f"a.read({value})", "election", word)
     refuses(f"a.folder([['a.pb', {value}]])", "'a.pb'", word)
+
+
+@pytest.mark.parametrize("view", ["Uint8Array(all, 8)", "Uint8Array(all, 8, 16)", "Uint8Array(all, 6, 2)", "Float64Array(all, 8, 1)",
+                                  "DataView(all, 8)", "DataView(all, 4, 4)"])  # fmt: skip
+def test_views_of_buffers_that_were_cut_short(refuses, view):
+    """Arrays among them say that they are empty, which would be another file."""
+    for who in ("a", "b", "w"):
+        refuses(f"{who}.read(cut(all => new {view}))", "election", "cut short")
+        refuses(f"{who}.groups(pb, {{ outcome: cut(all => new {view}) }})", "outcome", "cut short")
+    refuses(f"a.folder([['a.pb', pb], ['notes.txt', cut(all => new {view})]])", "'notes.txt'", "cut short")
+    refuses(f"b.read(stream(pb, cut(all => new {view})))", "election", "cut short")
+
+
+def test_views_that_are_not_cut_short(evaluate):
+    for view in ("Uint8Array(all, 0, 7)", "Uint8Array(all, 7)", "Uint8Array(all, 3, 0)", "DataView(all, 0, 7)", "DataView(all, 7)", "Uint8Array(0)"):
+        assert evaluate(f"a.read(cut(all => new {view}))")["answer"] == "refused"
 
 
 def test_folders(evaluate, refuses):

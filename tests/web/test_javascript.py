@@ -1,4 +1,5 @@
-"""The package for JavaScript: its command beside the program, what it answers, its types, and its bytes.
+"""The package for JavaScript: its command beside the program, what it answers, its types, and its bytes. What the machine tells the
+command is tried by test_command.py.
 
 `pytest tests --program COMMAND`, with the package's command.js, runs all else that is tried on the program.
 """
@@ -19,12 +20,13 @@ from tables import EXAMPLES
 
 ANSWERS = re.findall(r"^pbaudit (.*)$", (EXAMPLES / "answers.txt").read_text(encoding="utf-8"), re.MULTILINE)
 # So many files by chance, half of them damaged, and so many lines of words.
-CASES, LINES = 60, 1500
-WORDS = ["read", "prices", "violation", "both", "explain", "page", "margins", "tidy", "folder", "help", "pric", "foo", "a",
+CASES, LINES = 60, 150
+WORDS = ["read", "groups", "prices", "violation", "both", "explain", "page", "margins", "tidy", "folder", "help", "pric", "foo", "a",
          "b", "c", "-", "--", "--stable", "--cover", "--no-exhaustive", "--outcome", "--outcome=x", "--outcome=",
          "--language", "--language=de", "--stable=1", "-h", "--help", "-V", "--version", "-x", "--foo", "--sta", "--stabl",
          "--outcom", "--help=1", "--version=2", "-hV", "---", "", "\u00e9", "a\u202eb", "--lang", "--exhaustive", "--vers",
-         "=", "--=", "--=x", "-1", "--stable=", "viol", "-\u00e9"]  # fmt: skip
+         "=", "--=", "--=x", "-1", "--stable=", "viol", "-\u00e9", "--satisfaction", "--satisfaction=count", "--satisfaction=votes", "--json", "--satis", "--jso",
+         "--groups", "--groups", "--group"]  # fmt: skip
 CALLER = """
 import { readFileSync } from 'node:fs';
 import { auditor, OutOfMemory } from 'pbaudit';
@@ -42,6 +44,11 @@ const misspelt = (command, ...words) => {
 };
 console.log(JSON.stringify({
   read: a.read(sample),
+  groups: [a.groups(sample), a.groups(read('school.pb'), { satisfaction: 'count' }),
+           a.groups(sample, { outcome: 'pb-outcome,1\\nproject,a\\nproject,b\\nproject,c\\n' })],
+  onGroups: [a.explainGroups(sample), a.groupMargins(sample), a.groupsPage(read('school.pb'), { satisfaction: 'count' }),
+             a.explainGroups(sample, { outcome: 'pb-outcome,1\\nproject,a\\nproject,b\\nproject,c\\n' })],
+  refutation: a.refutation(read('school.pb'), read('school.refutation.csv'), { stable: true }),
   yes: a.prices(sample, read('sample.prices.csv'), { stable: true }),
   no: a.prices(district, read('district.prices.csv'), { stable: true }),
   text: a.prices(sample.toString(), read('sample.prices.csv').toString()),
@@ -63,9 +70,11 @@ console.log(JSON.stringify({
 }));
 """
 TYPED = """
-import { auditor } from 'pbaudit';
-import type { Auditor, Verdict } from 'pbaudit';
+import { asyncAuditor, auditor } from 'pbaudit';
+import { workerAuditor } from 'pbaudit/worker';
+import type { AnySource, AsyncAuditor, Auditor, BlobSource, ForPrices, LaterFor, StreamSource, Verdict, WorkerAuditor } from 'pbaudit';
 
+declare const file: BlobSource, body: StreamSource;
 const told = (verdict: Verdict): string => {
   if (verdict.answer === 'refused') return `${verdict.name} ${verdict.line ?? 0} ${verdict.hint.join()}`;
   return verdict.status === 1 ? `${verdict.condition} ${verdict.project ?? ''}` : verdict.form ?? 'violation';
@@ -73,13 +82,37 @@ const told = (verdict: Verdict): string => {
 const ask = (a: Auditor): string => told(a.prices('', new Uint8Array(), { stable: true, outcome: '' }));
 const page = (a: Auditor): string => a.page('', new ArrayBuffer(0), { language: 'de-AT', names: { election: 'a.pb' } }).text;
 const groups = (verdict: Verdict): 'strict' | 'weak' | 'little' | null => verdict.saysOfGroups;
-auditor().then(a => [ask(a), page(a), groups(a.prices(new DataView(new ArrayBuffer(0)), '')), a.folder(new Map([['a.pb', '']])).files.map(({ file }) => file), a.read('').text]);
+const short = (a: Auditor): string => {
+  const verdict = a.groups('', { satisfaction: 'count', outcome: '' });
+  return verdict.status === 1 ? `${verdict.measure} ${verdict.voters}` : `${verdict.status === 0 && verdict.measure}`;
+};
+const stable = (a: Auditor): boolean | undefined => {
+  const verdict = a.refutation('', '', { stable: true });
+  return verdict.status === 0 ? verdict.stable : undefined;
+};
+const later = async (a: AsyncAuditor | WorkerAuditor, blob: BlobSource, stream: StreamSource, any: AnySource): Promise<string> => {
+  const verdict = await a.groups(blob, { satisfaction: 'count', outcome: stream });
+  const more: LaterFor<ForPrices> = { stable: true, outcome: blob };
+  return [told(verdict), told(await a.prices(stream, '', more)), (await a.folder([['a.pb', any]])).text].join();
+};
+workerAuditor().then(w => later(w, file, body, '').finally(() => w.close()));
+asyncAuditor().then(b => later(b, file, body, new Uint8Array()));
+auditor().then(a => [short(a), stable(a), ask(a), page(a), groups(a.prices(new DataView(new ArrayBuffer(0)), '')), a.folder(new Map([['a.pb', '']])).files.map(({ file }) => file), a.read('').text]);
 """
 # Each is a mistake that the types have to tell.
 MISTAKES = ["told(a.read(''))", "a.prices('')", "a.prices('', '', { stabel: true })", "a.page('', '', { language: 'xx' })",
             "a.violation('', '', { stable: true })", "a.violation('', '').condition", "a.folder(['a.pb'])",
             "a.prices('', null)", "a.prices('', '', { stable: 'true' })", "a.read(new Blob([]))", "a.folder(null)",
-            "a.tidy('', '', { outcome: '' })"]  # fmt: skip
+            "a.tidy('', '', { outcome: '' })", "a.groups('', { satisfaction: 'votes' })", "a.groups('', { stable: true })",
+            "a.refutation('', '', { cover: true })", "a.read(file)", "a.read(body)", "a.close()"]  # fmt: skip
+LATER_MISTAKES = ["b.read(1)", "b.read({ size: 1 })", "told(b.read(file).answer)", "b.groups(file, { outcome: 1 })",
+                  "b.prices(file, file, { stabel: true })", "b.close()", "b.folder(['a.pb'])"]  # fmt: skip
+# What is a file to those who have the types of browsers.
+IN_BROWSERS = """
+const response = new Response('');
+asyncAuditor().then(b => [b.read(new Blob([])), b.read(new File([], 'a.pb')), b.read(response.body!), b.read(new Blob([]).stream())]);
+"""
+IN_BROWSERS_MISTAKES = ["a.read(new Blob([]))", "b.read(response)", "b.read(response.body)", "b.read(document.body)"]
 
 
 def ends(command, words, cwd, stdin=b""):
@@ -131,7 +164,7 @@ def test_a_folder_of_names(program, command, tmp_path):
         (tmp_path / name).write_text("nothing")
     (tmp_path / "folder.pb").mkdir()
     (tmp_path / "link.pb").symlink_to("A8.pb")
-    for words in (["folder", "."], ["folder", tmp_path, "--stable"]):
+    for words in (["folder", "."], ["folder", tmp_path, "--stable"], ["folder", ".", "--json"], ["folder", "missing", "--json"]):
         assert ends(command, words, tmp_path) == ends(program, words, tmp_path)
 
 
@@ -141,27 +174,15 @@ def test_output_that_is_not_taken(command):
     assert (ran.returncode, ran.stderr) == (4, b"fault write\n")
 
 
-def test_words_by_chance(program, installed, tmp_path):
+def test_words_by_chance(program, command, tmp_path):
     """Help and what is told of words that aren't understood, byte for byte."""
-    usage = tmp_path / "usage.mjs"
-    subprocess.run(["esbuild", TOP / "web/src/package/usage.ts", "--bundle", "--format=esm", f"--outfile={usage}",
-                    "--log-level=warning"], check=True)  # fmt: skip
     chance = random.Random(1)
-    lines = [[*([chance.choice(WORDS[:9])] if chance.random() < 0.6 else []), *chance.choices(WORDS, k=chance.randint(0, 5))]
+    lines = [[*([chance.choice(WORDS[:10])] if chance.random() < 0.6 else []), *chance.choices(WORDS, k=chance.randint(0, 5))]
              for _ in range(LINES)]  # fmt: skip
-    words = [TOP / "tests/web/words.mjs", installed / "node_modules/pbaudit/generated.js", usage]
-    told = subprocess.run(["node", *words], input="\n".join(map(json.dumps, lines)), stdout=subprocess.PIPE, text=True,
-                          check=True)  # fmt: skip
-    understood = 0
-    for line, answer in zip(lines, map(json.loads, told.stdout.splitlines()), strict=True):
-        status, out, err = ends(program, line, tmp_path)
-        if "asked" in answer:
-            understood += 1
-            assert status in (1, 2) or b"error: the language of a page" in err, line
-        else:
-            wanted = (0, answer["text"], "") if answer["isHelp"] else (3, "", answer["text"])
-            assert (status, out.decode(), err.decode()) == wanted, line
-    assert 0 < understood < LINES
+    with concurrent.futures.ThreadPoolExecutor(4) as threads:
+        found, wanted = (list(threads.map(lambda line: ends(each, line, tmp_path), lines)) for each in (command, program))
+    assert [line for line, *both in zip(lines, found, wanted, strict=True) if both[0] != both[1]] == []
+    assert {status for status, *_ in wanted} >= {0, 2, 3}
 
 
 @pytest.fixture(scope="module")
@@ -182,6 +203,9 @@ def test_the_example_of_the_documents(installed, certificate, wanted):
     example = re.search(r"\n\n(    import \{ readFileSync \}(?:.|\n)*?)\n\n(?! {4})", shown)[1]
     (installed / "verify.mjs").write_text(re.sub("^    ", "", example, flags=re.MULTILINE))
     assert ends("node", ["verify.mjs", EXAMPLES / "district.pb", EXAMPLES / f"district.{certificate}.csv"], installed) == wanted
+    # What is refused as a whole is on no line.
+    told = ends("node", ["verify.mjs", "/dev/null", EXAMPLES / f"district.{certificate}.csv"], installed)
+    assert told == (2, b"refused election 2 NoMeta record 1\n", b"the file is blank; META is missing\n")
 
 
 def test_verdicts_have_facts(told):
@@ -237,6 +261,59 @@ console.log(JSON.stringify(answers.map(({ notes }) => notes)));
     assert json.loads(ran.stdout) == [notes] * 3
 
 
+def test_groups_that_fall_short(told):
+    """In sample.pb one voter wants `c`, and has a third of the limit, 10: its cost is 9, and funded for that voter is 4. In
+    school.pb 90 of 100 got nothing, and have 90 % of the limit, which is what the school costs. All of sample.pb costs 19."""
+    satisfied = {"status": 0, "answer": "yes", "measure": "cost", "saysOfGroups": None, "text": "satisfied ejr+ by cost\n"}
+    yes, no, over = told["groups"]
+    assert yes == {**satisfied, "notes": []}
+    assert no == {"status": 1, "answer": "no", "condition": "EJR+", "measure": "count", "voters": 90, "project": "school",
+                  "saysOfGroups": None, "notes": [], "text": "failed EJR+ by count voters 90 project school\n"}  # fmt: skip
+    assert over == {**satisfied, "notes": ["note: the funded projects cost more than the limit"]}
+
+
+def test_figures_of_groups(program, told):
+    """The texts are the program's; the facts are those of the answer on groups."""
+    explained, margins, page, over = told["onGroups"]
+    assert (explained["answer"], explained["measure"], explained["notes"]) == ("yes", "cost", [])
+    assert explained["text"].encode() == ends(program, ["explain", "sample.pb", "--groups"], EXAMPLES)[1]
+    assert (margins["answer"], margins["text"].encode()) == ("written", ends(program, ["margins", "sample.pb", "--groups"], EXAMPLES)[1])
+    assert (page["status"], page["answer"], bool(page["sentence"])) == (1, "no", True)
+    assert over["notes"] == ["note: the funded projects cost more than the limit"]
+
+
+def test_a_refutation_asked_about_stable_prices(told):
+    """It refutes all prices with Cover, and that is the answer."""
+    assert told["refutation"] == {"status": 0, "answer": "yes", "stable": False, "cover": True, "saysOfGroups": None,
+                                  "notes": [], "text": "unpriceable cover\n"}  # fmt: skip
+
+
+@pytest.mark.parametrize("words", [
+    ["groups", "school.pb"], ["groups", "school.pb", "--satisfaction", "count"], ["groups", "sample.pb", "--satisfaction=cost"],
+    ["groups", "school.pb", "--satisfaction", "votes"], ["groups", "school.pb", "--satisfaction="], ["groups", "missing.pb"],
+    ["groups", "school.pb", "--outcome", "sample.outcome.csv"], ["groups", "over.pb"], ["groups", "over.pb", "--json"],
+    ["groups", "school.pb", "--satisfaction", "count", "--json"], ["groups", "school.pb", "--json", "--outcome", "missing"],
+    ["read", "sample.pb", "--json"], ["read", "missing.pb", "--json"], ["read", "sample.prices.csv", "--json"],
+    ["prices", "district.pb", "district.short.prices.csv", "--json"], ["both", "sample.pb", "missing.csv", "x", "--json"],
+    ["prices", "district.pb", "district.violation.csv", "--json"], ["explain", "school.pb", "school.refutation.csv", "--json"],
+    ["both", "sample.pb", "sample.prices.csv", "sample.wrong.violation.csv", "--json"], ["margins", "sample.pb", "--json"],
+    ["explain", "sample.pb", "--groups"], ["explain", "school.pb", "--groups", "--satisfaction", "count", "--json"],
+    ["explain", "over.pb", "--groups"], ["margins", "over.pb", "--groups"], ["margins", "--groups", "sample.pb"],
+    ["margins", "school.pb", "--groups", "--satisfaction=count"], ["page", "sample.pb", "--groups"],
+    ["page", "school.pb", "--groups", "--language", "de"], ["margins", "missing.pb", "--groups"],
+    ["explain", "sample.pb", "--groups", "--outcome", "sample.prices.csv"], ["page", "sample.prices.csv", "--groups"],
+    ["page", "sample.pb", "--groups", "--outcome", "missing"],
+    ["refutation", "school.pb", "school.refutation.csv", "--stable"],
+    ["refutation", "school.pb", "school.refutation.csv", "--stable", "--json"],
+], ids=" ".join)  # fmt: skip
+def test_groups_stable_refutations_and_objects(program, command, tmp_path, words):
+    """As the program answers, with its notes, its hints and its status."""
+    shutil.copytree(EXAMPLES, tmp_path / "examples")
+    over = (EXAMPLES / "school.pb").read_text(encoding="utf-8").replace(";100000\n", ";99\n")
+    (tmp_path / "examples/over.pb").write_text(over, encoding="utf-8")
+    assert ends(command, words, tmp_path / "examples") == ends(program, words, tmp_path / "examples")
+
+
 def test_refused_files_are_values(told):
     refused = told["refused"]
     assert (refused["status"], refused["answer"], refused["input"]) == (2, "refused", "certificate")
@@ -263,42 +340,86 @@ def test_texts_are_the_programs(program, told):
     assert [each["file"] for each in told["folder"]["files"]] == ["a.pb", "a.prices.csv", "b.pb"]
 
 
-def compiled(folder, *texts):
-    """What tsc says of a caller, under each way of finding packages that it knows."""
-    (folder / "package.json").write_text('{"type": "module"}')
-    (folder / "caller.ts").write_text("\n".join(texts))
-    ran = [subprocess.run(["tsc", "--strict", "--noEmit", "--target", "es2022", "--module", module, "--moduleResolution", way,
-                           "--lib", "es2022", "caller.ts"], cwd=folder, capture_output=True, text=True,
-                          check=False)
-           for module, way in (("node16", "node16"), ("es2022", "node"))]  # fmt: skip
-    return [each.stdout for each in ran]
+# Ways of finding packages that tsc knows, and the system of modules that a caller is of.
+WAYS = {"imported": ("mts", "node16", "node16"), "required": ("cts", "node16", "node16"), "bundled": ("ts", "es2022", "node")}
+
+
+def compiled(folder, *texts, lib="es2022", ways=WAYS):
+    """What tsc says of a caller, in each way of finding packages."""
+    told = []
+    for ending, module, way in (WAYS[each] for each in ways):
+        (folder / f"caller.{ending}").write_text("\n".join(texts))
+        words = ["--strict", "--noEmit", "--target", "es2022", "--module", module, "--moduleResolution", way, "--lib", lib]
+        ran = subprocess.run(["tsc", *words, f"caller.{ending}"], cwd=folder, capture_output=True, text=True, check=False)
+        told.append(ran.stdout)
+    return told
 
 
 def test_types(installed):
-    assert compiled(installed, TYPED) == ["", ""]
+    assert compiled(installed, TYPED) == [""] * len(WAYS)
 
 
-@pytest.mark.parametrize("mistake", MISTAKES)
+def test_types_with_those_of_browsers(installed):
+    assert compiled(installed, TYPED, IN_BROWSERS, lib="es2022,dom", ways=["imported"]) == [""]
+
+
+def calling(mistake):
+    return f"Promise.all([auditor(), asyncAuditor()]).then(([a, b]) => {mistake});"
+
+
+@pytest.mark.parametrize("mistake", [*MISTAKES, *LATER_MISTAKES])
 def test_types_tell_mistakes(installed, mistake):
-    assert all("error TS" in each for each in compiled(installed, TYPED, f"auditor().then(a => {mistake});"))
+    [told] = compiled(installed, TYPED, calling(mistake), ways=["imported"])
+    assert "error TS" in told
 
 
-def test_a_bundler_takes_it(installed):
-    """What is bundled for browsers needs nothing beside it."""
-    (installed / "small.mjs").write_text("import { auditor } from 'pbaudit';\n"
-                                         "auditor().then(a => console.log(a.read('META').name));\n")
-    words = ["esbuild", "small.mjs", "--bundle", "--platform=browser", "--outfile=out/small.js", "--log-level=warning"]
-    subprocess.run(words, cwd=installed, check=True)
+@pytest.mark.parametrize("way", ["required", "bundled"])
+def test_types_tell_a_mistake_in_each_way(installed, way):
+    [told] = compiled(installed, TYPED, calling("a.violation('', '', { stable: true })"), ways=[way])
+    assert "error TS" in told
+
+
+@pytest.mark.parametrize("mistake", IN_BROWSERS_MISTAKES)
+def test_types_tell_mistakes_with_those_of_browsers(installed, mistake):
+    [told] = compiled(installed, TYPED, IN_BROWSERS, calling(mistake), lib="es2022,dom", ways=["imported"])
+    assert "error TS" in told
+
+
+@pytest.mark.parametrize("takes", ["import {{ auditor }} from 'pbaudit';", "const {{ auditor }} = require('pbaudit');"])
+@pytest.mark.parametrize("platform", ["browser", "node"])
+def test_a_bundler_takes_it(installed, takes, platform):
+    """What is bundled needs nothing beside it."""
+    (installed / "small.js").write_text(f"{takes.format()}\nauditor().then(a => console.log(a.read('META').name));\n")
+    words = ["esbuild", "small.js", "--bundle", f"--platform={platform}", "--outfile=out/small.js", "--log-level=warning"]
+    assert subprocess.run(words, cwd=installed, capture_output=True, check=True).stderr == b""
     alone = shutil.copy(installed / "out/small.js", installed / "out/alone.cjs")
     told = subprocess.run(["node", alone], stdout=subprocess.PIPE, check=True)
     assert told.stdout == b"NoHeader\n"
 
 
-def test_out_of_memory_is_an_error(page, program, tmp_path):
-    """With a module whose memory doesn't grow: an exception of its own, the program's line, and then the next call."""
-    small = tmp_path / "small.html"
+@pytest.mark.parametrize("takes", ["import {{ workerAuditor }} from 'pbaudit/worker';",
+                                   "const {{ workerAuditor }} = require('pbaudit/worker');"])  # fmt: skip
+def test_a_bundler_takes_the_worker_that_is_meant(installed, takes):
+    """For Node that of Node, which runs from one file, and for browsers one that has nothing of Node."""
+    (installed / "away.js").write_text(f"{takes.format()}\nworkerAuditor().then(w => w.read('META')).then(({{ name }}) => console.log(name));\n")
+    scripts = {}
+    for platform in ("browser", "node"):
+        put = installed / f"out/{platform}.cjs"
+        words = ["esbuild", "away.js", "--bundle", f"--platform={platform}", f"--outfile={put}", "--log-level=warning"]
+        assert subprocess.run(words, cwd=installed, capture_output=True, check=True).stderr == b""
+        scripts[platform] = put.read_text(encoding="utf-8")
+    assert "worker_threads" in scripts["node"] and "node:" not in scripts["browser"]
+    assert "createObjectURL" in scripts["browser"] and "createObjectURL" not in scripts["node"]
+    told = subprocess.run(["node", "out/node.cjs"], cwd=installed, stdout=subprocess.PIPE, check=True, timeout=60)
+    assert told.stdout == b"NoHeader\n"
+
+
+def test_out_of_memory_is_an_error(page, command, tmp_path):
+    """With modules whose memory doesn't grow: an exception of its own, the program's line, and then the next call."""
+    small, of_command = tmp_path / "small.html", tmp_path / "small.wasm"
     variants.write(page, small, lambda module: variants.with_fixed_memory(module, 12))
-    subprocess.run([TOP / "packaging/javascript", small, program, tmp_path], stdout=subprocess.DEVNULL, check=True)
+    of_command.write_bytes(variants.with_fixed_memory((command.parent / "pbaudit.wasm").read_bytes(), 12))
+    subprocess.run([TOP / "packaging/javascript", small, of_command, tmp_path], stdout=subprocess.DEVNULL, check=True)
     with tarfile.open(next(tmp_path.glob("*.tgz"))) as package:
         package.extractall(tmp_path)
     (tmp_path / "large.pb").write_text((EXAMPLES / "sample.pb").read_text() + "4;a,b,c\n" * 2_000_000)
@@ -315,15 +436,27 @@ try {
 }""")
     told = subprocess.run(["node", "caller.mjs", EXAMPLES], cwd=tmp_path, stdout=subprocess.PIPE, check=True)
     assert told.stdout == b"true 3\n"
+    (tmp_path / "away.cjs").write_text("""
+const { readFileSync } = require('node:fs');
+const { OutOfMemory } = require('./package/cjs/index.js');
+require('./package/cjs/worker_node.js').workerAuditor().then(async w => {
+  const error = await w.read(readFileSync('large.pb')).catch(error => error);
+  console.log(error instanceof OutOfMemory, (await w.read(readFileSync(`${process.argv[2]}/sample.pb`))).voters);
+});""")
+    told = subprocess.run(["node", "away.cjs", EXAMPLES], cwd=tmp_path, stdout=subprocess.PIPE, check=True, timeout=120)
+    assert told.stdout == b"true 3\n"
 
 
-def test_package_has_the_same_bytes_elsewhere(packed, page, program, tmp_path):
+def test_package_has_the_same_bytes_elsewhere(packed, page, tmp_path):
+    """Also where the command's module is that of a package."""
     for name in ("web", "packaging", "CHANGELOG.md", "LICENSE", "python/pbaudit", "crates/pb_words/src"):
         (tmp_path / "copy" / name).parent.mkdir(parents=True, exist_ok=True)
-        copy = shutil.copytree if (TOP / name).is_dir() else shutil.copy
-        copy(TOP / name, tmp_path / "copy" / name)
+        if (TOP / name).is_dir():
+            shutil.copytree(TOP / name, tmp_path / "copy" / name, ignore=shutil.ignore_patterns("out", "__pycache__"))
+        else:
+            shutil.copy(TOP / name, tmp_path / "copy" / name)
     (tmp_path / "made").mkdir()
-    words = [tmp_path / "copy/packaging/javascript", page, program, tmp_path / "made"]
+    words = [tmp_path / "copy/packaging/javascript", page, packed, tmp_path / "made"]
     subprocess.run(words, stdout=subprocess.DEVNULL, check=True)
     assert (tmp_path / "made" / packed.name).read_bytes() == packed.read_bytes()
 
@@ -335,14 +468,54 @@ def test_package_is_named_as_what_is_released_or_isnt(packed):
     assert (packed.name, about["version"]) == (f"pbaudit-{state}.tgz", state)
 
 
-def test_package_needs_nothing(packed):
+def files_of(packed):
+    """The texts of the package: all but the module of the command."""
     with tarfile.open(packed) as package:
-        about = json.load(package.extractfile("package/package.json"))
-        scripts = [package.extractfile(f"package/{name}.js").read().decode() for name in ("index", "command")]
+        files = {entry.name.removeprefix("package/"): package.extractfile(entry).read() for entry in package}
+    return {name: data.decode() for name, data in files.items() if name != "pbaudit.wasm"}
+
+
+def test_package_needs_nothing(packed):
+    files = files_of(packed)
+    about = json.loads(files["package.json"])
+    with tarfile.open(packed) as package:
         assert {entry.uname + entry.gname for entry in package} == {""}
     assert not {"dependencies", "scripts", "peerDependencies"} & set(about)
-    assert not re.findall(r"""(?:from |import\(?|require\()["'](?!node:|\./generated\.js)""", "".join(scripts))
-    assert "node:" not in scripts[0], "what a bundler takes has nothing of Node"
+    scripts = {name: text for name, text in files.items() if name.endswith(".js") and "generated" not in name}
+    own = r"\./(?:index|generated|generated_worker)\.js"
+    assert len(scripts) == 7
+    assert not re.findall(rf"""(?:from |import\(?|require\()["'](?!node:|{own})""", "".join(scripts.values()))
+    with_node = {name for name, text in scripts.items() if "node:" in text}
+    assert with_node == {"command.js", "worker_node.js", "cjs/worker_node.js"}, "what a bundler takes has nothing of Node"
+    assert not [name for name, text in files.items() if "generated_worker" in name and "node:" in text]
+
+
+def places_in(about):
+    """Each file that package.json names, with the conditions on the way to it."""
+    def among(value, *way):
+        if isinstance(value, str):
+            yield way, value
+        for name, inner in value.items() if isinstance(value, dict) else ():
+            yield from among(inner, *way, name)
+    return list(among(about["exports"]))
+
+
+def test_package_names_its_files(packed):
+    files = files_of(packed)
+    about = json.loads(files["package.json"])
+    places = places_in(about)
+    assert {way[0] for way, _ in places} == {".", "./worker", "./package.json"}
+    for way, path in [*places, (("main",), about["main"]), (("module",), about["module"]), (("types",), about["types"])]:
+        assert path.removeprefix("./") in files, (way, path)
+        assert path.endswith(".d.ts") == ("types" in way), (way, path)
+    for entry in (".", "./worker"):
+        assert [*about["exports"][entry]] == ["import", "require"]
+        for system in about["exports"][entry].values():
+            assert next(iter(system)) == "types" and [*system][-1] == "default", "the first that fits is taken"
+    kinds = {about["type"], json.loads(files["cjs/package.json"])["type"]}
+    assert kinds == {"module", "commonjs"} and len(about["keywords"]) > 3
+    assert {path for path in files if path.endswith(".d.ts") and path.startswith("types/")} == {
+        path.removeprefix("cjs/") for path in files if path.endswith(".d.ts") and path.startswith("cjs/")}
 
 
 def test_npm_runs_it(packed, program, tmp_path):

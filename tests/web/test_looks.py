@@ -1,14 +1,13 @@
 """How the page looks, on a phone, a tablet and a computer, light and dark, in each language, whatever it shows."""
 import itertools
 import pathlib
-import time
 
 import pytest
 
 import looks
 import screens
 from tables import EXAMPLES
-from visiting import districts
+from visiting import IS_LISTED, districts
 
 LANGUAGES = ("en", "pl", "de", "fr")
 SCREENS = (screens.PHONE, (768, 900), (1100, 900))
@@ -18,11 +17,10 @@ TICK = "for (const each of [...document.querySelectorAll('#projects input')].sli
 # Where the first verdict begins, and where the first control does.
 PLACES = """
 const topOf = each => each ? each.getBoundingClientRect().top + scrollY : null;
-return ['#audit-list .badge', '#choose'].map(each => topOf(document.querySelector(each)));
+const isAlone = document.querySelector('#on-groups')?.hidden === false;
+return [isAlone ? '#on-groups .tag' : '#audit-list .badge', '#choose'].map(each => topOf(document.querySelector(each)));
 """
 OPEN = "for (const each of document.querySelectorAll('details')) each.open = true;"
-# Seconds in which a page is laid out anew after its screen has changed.
-PAUSE = 0.1
 
 
 def alone(opened, _):
@@ -42,7 +40,7 @@ def group(opened, _):
 def found(opened, _):
     alone(opened, _)
     opened.browser.ask("document.querySelector('#look-for-prices').click()")
-    opened.browser.wait("return document.querySelector('.made')", "the prices")
+    opened.browser.wait(IS_LISTED, "the prices", "district.found.prices.csv")
 
 
 def refused(opened, room):
@@ -86,8 +84,8 @@ def made_of_sheets(opened, room):
 # What is shown: how somebody comes there, and the first verdict in English.
 STATES = {
     "start": (lambda opened, room: None, None),
-    "an election": (alone, "Read"),
-    "a group": (group, "Read"),
+    "an election": (alone, "Proved"),
+    "a group": (group, "Proved"),
     "found prices": (found, "Yes"),
     "yes": (lambda opened, room: opened.give(DISTRICT, EXAMPLES / "district.prices.csv"), "Yes"),
     "no": (lambda opened, room: opened.give(DISTRICT, EXAMPLES / "district.short.prices.csv"), "No"),
@@ -97,13 +95,13 @@ STATES = {
     "many": (many, "No"),
     "sheets": (sheets, None),
     "faulty sheets": (faulty_sheets, None),
-    "made of sheets": (made_of_sheets, "Read"),
+    "made of sheets": (made_of_sheets, "Proved"),
 }  # fmt: skip
 
 
 def look(opened, screen, what):
     """Nothing is wrong on the screen, and on a phone the first verdict stands above the controls, and high up."""
-    time.sleep(PAUSE)
+    opened.browser.settle()
     assert looks.wrong(opened.browser) == {}, what
     first, control = opened.browser.ask(PLACES)
     if first is not None and screen == screens.PHONE:
@@ -131,6 +129,5 @@ def test_looks(opened, option, tmp_path, state):
     opened.browser.ask(OPEN)
     for screen in SCREENS:
         screens.show_on(opened.browser, *screen)
-        time.sleep(PAUSE)
         assert looks.wrong(opened.browser) == {}, f"all is open on {screen}"
     screens.colour(opened.browser, "light")

@@ -9,7 +9,6 @@ import tempfile
 import pytest
 
 import by_node
-import calls
 import cases
 import saying
 import tables
@@ -54,24 +53,21 @@ def test_by_chance(run, node, seed, by_chance, room):
         assert (told.get("status"), told.get("text")) == (ran.returncode, ran.stdout)
         if ran.returncode == 2:
             assert (told.get("line"), told.get("sentences")) == by_node.told_hints(ran.stderr)
+        if words[0] not in ("read", "page"):
+            assert told.get("notes") == by_node.told_notes(ran.stderr)
 
 
-def as_told(facts):
-    """Facts as the module tells them."""
-    if facts.input:
-        return {"fault": {"input": facts.input, "number": facts.number, "record": facts.record}}
-    failing = {"condition": facts.condition, "test": facts.test}
-    return {at: {key: value for key, value in vars(it).items() if value} for at, it in failing.items() if it}
-
-
-@pytest.mark.parametrize("name", ["answers.txt", "hints.txt", "refutations.txt"])
-def test_facts(node, room, name):
+@pytest.mark.parametrize("name", ["answers.txt", "groups.txt", "hints.txt", "refutations.txt"])
+def test_what_is_said(node, room, name):
+    """Of both two lines are said, unless a file is refused. The notes on an election that is read are its other lines."""
     for row, words, files in tables.asked(name):
+        if words[0] in ("margins", "tidy", "page"):
+            continue
         cases.write_files(room, {"missing": b"", **files})
-        told = node.ask(by_node.call_of(words, room))["facts"]
-        says = told.pop("saysOfGroups", None)
-        assert says is None or row.text.startswith("supported ")
-        assert told == as_told(calls.facts_of(row.text.encode(), files[words[1]])), (row.group, words)
+        told, lines = node.ask(by_node.call_of(words, room)), row.printed[:2 if words[0] == "both" else 1]
+        assert told["says"] == [by_node.said(line) for line in lines], (row.group, words)
+        if words[0] == "read":
+            assert told["notes"] == row.printed[1:], (row.group, words)
 
 
 def test_each_kind_of_answer_comes(seed, option):
@@ -125,6 +121,21 @@ def test_style(room):
     paths = {**os.environ, "NODE_PATH": "/usr/share/nodejs"}
     told = subprocess.run(words, cwd=room, env=paths, capture_output=True, text=True, check=False)
     assert written.is_dir() and told.returncode == 0, told.stdout + told.stderr
+
+
+# A pattern in a script, and words of printed lines, of tables and of the library's pages.
+PATTERN = re.compile(r"(?:[=(,:\[!&|?;>]|return) */(?![/*])((?:[^/\\\n\[]|\\.|\[(?:[^\]\\\n]|\\.)*\])+)/")
+OF_THE_PROGRAM = re.compile(r"failed|satisfied|priceable|supported|\^violation|refused|note:| voters| projects|says |<\w|class=")
+CALLED = {"pbaudit_report", "pbaudit_answer_page", "pbaudit_groups_page", "pbaudit_room"}
+
+
+def test_nothing_is_read_off_what_is_printed():
+    """Answers are read as JSON: no script has a pattern on a printed line, a table or a page, or calls what answers in lines alone."""
+    scripts = {path.name: path.read_text(encoding="utf-8") for path in (WEB / "src").rglob("*.ts") if path.parent.name != "sheets"}
+    patterns = {(name, found) for name, text in scripts.items() for found in PATTERN.findall(text)}
+    assert len(patterns) > 20
+    assert [each for each in sorted(patterns) if OF_THE_PROGRAM.search(each[1])] == []
+    assert {found for text in scripts.values() for found in re.findall(r'"(pbaudit_\w+)"', text)} == CALLED
 
 
 def test_modules_that_need_no_browser(room):

@@ -14,6 +14,7 @@ from tables import EXAMPLES
 
 # A yes of each command with each of its inputs.
 LINES = [
+    "groups sample.pb --outcome sample.outcome.csv",
     "read sample.pb",
     "prices district.pb district.stable.prices.csv --stable --outcome district.stable.outcome.csv",
     "violation district.pb district.violation.csv --outcome district.other.outcome.csv",

@@ -3,6 +3,7 @@
 import pytest
 
 import browsers
+from downloaded import saved
 from tables import EXAMPLES
 from visiting import sentence
 
@@ -48,7 +49,7 @@ def tab_to(opened, wanted):
     pytest.fail(f"Tab doesn't reach {wanted}")
 
 
-def test_keyboard(opened, downloads):
+def test_keyboard(opened):
     """The whole way without a mouse: files, an option, an audit, what is saved and printed. The dialogs for files and
     for printing are the browser's, so that they are asked for is all that is seen."""
     opened.open()
@@ -68,11 +69,8 @@ def test_keyboard(opened, downloads):
     assert opened.browser.ask(FOCUS)[0] == "#exhaustive"
     wanted = opened.says("page", "sample.pb", "sample.prices.csv", "--no-exhaustive")
     assert opened.shown() == wanted
-    saved = downloads / "sample.prices.html"
     tab_to(opened, "#save")
-    opened.browser.press(browsers.ENTER)
-    browsers.until(lambda: saved.exists() and saved.read_text() == wanted, 20, "saving by the keyboard")
-    saved.unlink()
+    assert saved(opened.browser, lambda: opened.browser.press(browsers.ENTER), "sample.prices.html").read_text() == wanted
     opened.browser.ask(NOTE_PRINTING)
     tab_to(opened, "#print")
     opened.browser.press(browsers.SPACE)
@@ -80,7 +78,7 @@ def test_keyboard(opened, downloads):
     opened.browser.ask("document.querySelector('#language').focus()")
     tab_to(opened, "Remove sample.prices.csv")
     opened.browser.press(browsers.ENTER)
-    assert opened.answers(1) == [("sample.pb", "Read", None)]
+    assert opened.answers(1) == [("sample.pb", "Proved", None)]
     assert opened.browser.ask(FOCUS)[0] == "Remove sample.pb"
     opened.browser.press(browsers.ENTER)
     assert opened.browser.ask(FOCUS)[0] == "#choose"

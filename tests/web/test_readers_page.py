@@ -54,7 +54,7 @@ def test_hostile_names(opened, page, tmp_path):
     (tmp_path / name).write_bytes(FILES[0].read_bytes())
     assert made(page, tmp_path / "town.html", tmp_path / name).returncode == 0
     opened.open((tmp_path / "town.html").as_uri())
-    assert opened.answers(1) == [(name, "Read", None)]
+    assert opened.answers(1) == [(name, "Proved", None)]
     assert opened.browser.ask("return document.querySelectorAll('img').length") == 0
     assert "taken" not in opened.browser.ask("return document.title")
 

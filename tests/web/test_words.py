@@ -7,7 +7,7 @@ import subprocess
 import pytest
 
 from common import needs
-from visiting import sentence
+from visiting import headline, sentence, sentence_on_groups
 
 WEB = pathlib.Path(__file__).resolve().parent.parent.parent / "web"
 DE, EN, FR, PL, LISTS = "src/words/de.ts", "src/words/en.ts", "src/words/fr.ts", "src/words/pl.ts", "src/page/lists.ts"
@@ -27,23 +27,50 @@ MISTAKES = [
 ]  # fmt: skip
 
 
-# What the page says as the page about a certificate does, by that one's name for the sentence.
+# What the page says as the page about a certificate or about groups does, by that one's name for the sentence.
 SHARED = {"groupsBelowReach": "GroupsBelowReach", "groupsWithinReach": "GroupsWithinReach", "notSaidDeserved": "NotSaidDeserved"}
+ON_GROUPS = {"noneByCost": "NoneByCost", "noneByCount": "NoneByCount"}
+HEADLINES = {
+    "saysSupported": "Supported", "saysStable": "SupportedStable", "saysNotSupported": "NotSupported", "saysViolation": "Violation",
+    "saysNoViolation": "NoViolation", "saysRefuted": "Unpriceable", "saysRefutedCover": "UnpriceableUnderCover",
+    "saysRefutedStable": "UnpriceableStable", "saysRefutedStableCover": "UnpriceableStableUnderCover",
+    "saysNotRefuted": "NotRefuted", "saysNotRefutedStable": "NotRefutedStable", "someShort": "GroupFallsShort", "noneShort": "NoGroupFallsShort",
+}  # fmt: skip
+
+
+def said_here(code, names):
+    """What the page in a browser says."""
+    text = (WEB / f"src/words/{code}.ts").read_text(encoding="utf-8")
+    return {name: re.search(rf'^  {name}: "(.*)",$', text, re.MULTILINE)[1] for name in names}
+
+
+def headlines_here(code):
+    """The sentences on answers that the page in a browser has."""
+    text = (WEB / "src/words/headlines.ts").read_text(encoding="utf-8").split(f"\n  {code}: {{\n")[1].split("\n  },\n")[0]
+    return dict(re.findall(r'^    (\w+): "(.*)",$', text, re.MULTILINE))
 
 
 @pytest.mark.parametrize("code", ["en", "pl", "de", "fr"])
 def test_what_a_yes_says_is_said_in_the_same_words(code):
-    text = (WEB / f"src/words/{code}.ts").read_text(encoding="utf-8")
-    said = {name: re.search(rf'^  {name}: "(.*)",$', text, re.MULTILINE)[1] for name in SHARED}
     wanted = {name: sentence(code, theirs) for name, theirs in SHARED.items()}
     # What isn't said begins with what it would be, which stands in a list there.
-    assert said == {**wanted, "notSaidDeserved": wanted["notSaidDeserved"].split(". ", 1)[1]}
+    assert said_here(code, SHARED) == {**wanted, "notSaidDeserved": wanted["notSaidDeserved"].split(". ", 1)[1]}
+
+
+@pytest.mark.parametrize("code", ["en", "pl", "de", "fr"])
+def test_what_is_said_of_groups_is_said_in_the_same_words(code):
+    assert said_here(code, ON_GROUPS) == {name: sentence_on_groups(code, theirs) for name, theirs in ON_GROUPS.items()}
+
+
+@pytest.mark.parametrize("code, language", [("en", "english"), ("pl", "polish"), ("de", "german"), ("fr", "french")])
+def test_answers_are_said_in_the_same_words(code, language):
+    assert headlines_here(code) == {name: headline(language, theirs) for name, theirs in HEADLINES.items()}
 
 
 @pytest.mark.parametrize("mistakes", MISTAKES, ids=lambda mistakes: ", ".join(what for what, *_ in mistakes.values()))
 def test_mistakes_do_not_compile(tmp_path, mistakes):
     needs("tsc")
-    copy = pathlib.Path(shutil.copytree(WEB, tmp_path / "web", ignore=shutil.ignore_patterns("out")))
+    copy = pathlib.Path(shutil.copytree(WEB, tmp_path / "web", ignore=shutil.ignore_patterns("out", "__pycache__")))
     for name, (_, pattern, written) in mistakes.items():
         wrong, count = re.subn(pattern, written, (copy / name).read_text(encoding="utf-8"), flags=re.MULTILINE)
         assert count == 1

@@ -19,6 +19,8 @@ IS_DONE = """
 return document.querySelectorAll('#audit-list > li').length > 0 && document.querySelector('#work').hidden
   && !document.querySelector('[data-state=waiting], [data-state=running]');
 """
+# Whether a file has a row.
+IS_LISTED = "return [...document.querySelectorAll('#audit-list bdi')].some(each => each.textContent === arguments[0])"
 CHOOSE = """
 const choice = document.querySelector(arguments[0]);
 choice.selectedIndex = [...choice.options].findIndex(option => option.textContent === arguments[1]);
@@ -89,8 +91,23 @@ def districts(room):
     (room / "alone.pb").write_bytes((EXAMPLES / "sample.pb").read_bytes())
 
 
+def said(path, pattern):
+    """A text of the pages' words, by a pattern of what stands before it."""
+    source = (TOP / "crates/pb_words/src" / path).read_text(encoding="utf-8")
+    text = re.sub(r"\\\n *", "", re.search(rf'{pattern} =>\s*"([^"]*)"', source, re.DOTALL)[1])
+    return re.sub(r"\\u\{(\w+)\}", lambda found: chr(int(found[1], 16)), text)
+
+
 def sentence(code, name):
     """A sentence of the page about a certificate."""
-    source = (TOP / "crates/pb_words/src/wording" / f"{code}.rt").read_text(encoding="utf-8")
-    text = re.sub(r"\\\n *", "", re.search(rf'Sentence::{name} =>\s*"([^"]*)"', source)[1])
-    return re.sub(r"\\u\{(\w+)\}", lambda found: chr(int(found[1], 16)), text)
+    return said(f"wording/{code}.rt", rf"Sentence::{name}")
+
+
+def sentence_on_groups(code, name):
+    """A sentence of the page about groups that fall short."""
+    return said(f"wording/short_groups/{code}.rt", rf"ShortGroups::{name}")
+
+
+def headline(language, name):
+    """The answer in a sentence, as the pages say it."""
+    return said("headlines.rt", rf"fn {language}\(.*?Headline::{name}")

@@ -12,3 +12,9 @@ test("no field is a formula", () => {
   assert.equal(csvOf([["=1+1", "+1", "-1", "@a", "a=1"]]), "'=1+1,'+1,'-1,'@a,a=1\r\n");
   assert.equal(csvOf([['=HYPERLINK("x")']]), `"'=HYPERLINK(""x"")"\r\n`);
 });
+
+test("nor is one behind a semicolon, where that begins a cell", () => {
+  assert.equal(csvOf([["a;=1+1;b"], ["a; -1"], ["a;b=1"]]), `"a;'=1+1;b"\r\n"a; '-1"\r\n"a;b=1"\r\n`);
+  assert.equal(csvOf([['a;"=1+1']]), `"a;""'=1+1"\r\n`);
+  assert.equal(csvOf([["\uff1d1+1"], ["\n=1"]]), `'\uff1d1+1\r\n"'\n=1"\r\n`);
+});

@@ -5,11 +5,13 @@ import test from "node:test";
 import { fieldOf, refutationText, violationText } from "../src/finding/certificates.js";
 import { cohortsOf } from "../src/finding/cohorts.js";
 import { figuresOf, refutationOf, roomOf } from "../src/finding/groups.js";
-import { findPrices } from "../src/finding/prices.js";
+import { Decisions } from "../src/finding/deciding.js";
 import { Search } from "../src/finding/search.js";
+import { seek } from "../src/finding/seeking.js";
+import { problemOf } from "../src/finding/shares.js";
 import { ended, townFrom } from "./towns.js";
 import type { Measure } from "../src/finding/groups.js";
-import type { FoundPrices } from "../src/finding/prices.js";
+import type { Sought } from "../src/finding/seeking.js";
 import type { Town } from "../src/finding/town.js";
 
 /** Limit 10; the park of 6 and the library of 4 are funded, the pool of 9 isn't. */
@@ -147,8 +149,8 @@ test("what room the outcome leaves", () => {
   assert.deepEqual(roomOf(townFrom([6, 4], 9, ["0"], [0, 1])), { isFeasible: false, addable: undefined });
 });
 
-const prices = (town: Town, stable = false, cover = false): FoundPrices =>
-  ended(findPrices(town, cohortsOf(town.ballots), { stable, cover }));
+const prices = (town: Town, stable = false, cover = false): Sought =>
+  ended(seek(new Decisions(problemOf(town, cohortsOf(town.ballots))), "prices", { stable, cover }));
 
 test("prices of an election in which one project has one price", () => {
   // Each of the two supporters of p0 pays 2, and has nothing left for p1.
@@ -160,7 +162,9 @@ test("prices of an election in which one project has one price", () => {
 
 test("where there can be no prices, it says why", () => {
   assert.deepEqual(prices(townFrom([6, 4], 9, ["0,1"], [0, 1])), { says: "infeasible" });
-  assert.deepEqual(prices(townFrom([6, 4], 10, ["0"], [0, 1])), { says: "unpaid", project: 1 });
+  const unpaid = prices(townFrom([6, 4], 10, ["0"], [0, 1]));
+  assert(unpaid.says === "unpaid" && unpaid.project === 1);
+  assert.deepEqual(unpaid.refutation.weights, [{ role: "least", project: 1, weight: 1 }]);
   // The supporter of p0 has to have a budget of 4, so that those of p1 have 8 left, which costs 5.
   const rich = townFrom([4, 5], 6, ["0", "1", "1"], [0]);
   assert.deepEqual(prices(rich), { says: "none" });

@@ -68,6 +68,16 @@ test("files of other folders don't belong together", () => {
   ]);
 });
 
+test("an election alone is asked about with the outcome file of its name, or with the one that was chosen", () => {
+  assert.deepEqual(pairs("a.pb", "a.outcome.csv", "b.outcome.csv", "b.pb", "c.pb"),
+                   [[null, "a.pb", "a.outcome.csv"], [null, "b.pb", "b.outcome.csv"], [null, "c.pb", null]]);
+  assert.deepEqual(pairs("A.PB", "a.Outcome.csv"), [[null, "A.PB", "a.Outcome.csv"]]);
+  const election = piece("a.pb"), own = piece("a.outcome.csv"), other = piece("b.outcome.csv");
+  const by = (outcome: Piece | null): unknown[] => told(tasksOf([election, own, other], new Map([[election, { outcome }]])));
+  assert.deepEqual(by(other), [[null, "a.pb", "b.outcome.csv"]]);
+  assert.deepEqual(by(null), [[null, "a.pb", null]]);
+});
+
 test("an outcome of the same name is the certificate's, and one of another name is asked about", () => {
   assert.deepEqual(pairs("a.pb", "a.prices.csv", "a.outcome.csv"), [["a.prices.csv", "a.pb", "a.outcome.csv"]]);
   assert.deepEqual(pairs("a.pb", "a.prices.csv", "b.outcome.csv"), [["a.prices.csv", "a.pb", null, "outcome"]]);

@@ -10,14 +10,16 @@ use Rattle.pb_certificate.proofs.Unique.{group-text-sets}
 use Rattle.pb_cohesion.specs.Groups.{AreProjects, IsGroup, Violates}
 use Rattle.pb_cohesion.specs.Satisfactions.{worth_by}
 use Rattle.pb_price.specs.declared.Mode.{Mode}
+use Rattle.pb_price.specs.Findings.{findings}
+use Rattle.pb_price.specs.declared.Findings.{Findings}
 use Rattle.pb_price.specs.declared.Verdict.{Verdict}
 use Rattle.pb_reply.specs.Replies.{Reply, refused, with_input}
-use Rattle.pb_audit.specs.Answers.{price_reply, violation_reply}
-use Rattle.pb_audit.specs.Both.{BothPromise, GroupAndDemand, ReadsBoth, StatesBoth, beside, both_on, both_reply, both_rules, yes_where_both}
+use Rattle.pb_audit.specs.Answers.{price_reply, verdict_reply, violation_reply}
+use Rattle.pb_audit.specs.Both.{BothPromise, GroupAndDemand, ReadsBoth, StatesBoth, beside, both_on, both_reply, both_rules, joined, yes_where_both}
 use Rattle.pb_reply.specs.Inputs.{InTurn, Stated, StatesElection, StatesPrices, StatesViolation}
 use Rattle.pb_input.specs.declared.InputRefusal.{InputRefusal}
 use Rattle.pb_reply.specs.Turns.{FileTurn, Turn}
-use Rattle.pb_audit.specs.Inside.Certificates.{AnswersCertificate, JudgesPrices, Promised}
+use Rattle.pb_audit.specs.Inside.Certificates.{AnswersCertificate, FindsPrices, Promised}
 use Rattle.pb_reply.specs.Inside.Taking.{Gives, GivesOutcome, IfTaken, settled}
 use Rattle.pb_input.specs.declared.InputName.TheVariants as name
 use Rattle.pb_reply.specs.declared.stop.Stop.{Stop}
@@ -25,6 +27,9 @@ use Rattle.pb_reply.specs.declared.stop.Stop.TheVariants as stop
 use Rattle.pb_reply.specs.declared.status.Status.{Status}
 use Rattle.pb_reply.specs.declared.status.Status.TheVariants.{Yes}
 use Rattle.pb_audit.proofs.Audits.{answered, ended_at_election, ended_at_outcome}
+use Rattle.pb_audit.specs.Objects.{both_text}
+use Rattle.pb_audit.proofs.Explained.{told_verdict}
+use Rattle.pb_reply.proofs.Culprits.{denominator-low}
 use Rattle.pb_reply.proofs.Promises.{prices_promise, violation_promises}
 
 both_yes : (first second : Status) → (yes_where_both first second ≡ Yes) ↔ ((first ≡ Yes) × (second ≡ Yes))
@@ -69,16 +74,19 @@ abbrev prices_refused : (m : Mode) (e : Instance) (w : List Bool) (prices violat
 prices_refused m e w prices violation r states = record { c = Err r; given = states; out = refl }
 
 -- the prices are accepted, and the violation certificate is answered beside the verdict on them
-abbrev both_answered : (m : Mode) (e : Instance) (w : List Bool) (prices violation : Delivery) (verdict : Verdict)
+abbrev both_answered : (m : Mode) (e : Instance) (w : List Bool) (prices violation : Delivery) (f : Findings)
     (r : Reply)
-    → JudgesPrices name.Prices m e w prices (Ok verdict)
-    → AnswersCertificate (StatesViolation name.Violation) (beside m verdict) e w violation r
+    → FindsPrices name.Prices e w prices (Ok f)
+    → AnswersCertificate (StatesViolation name.Violation) (beside m f) e w violation r
     → AnswersCertificate (StatesBoth violation) (both_reply m) e w prices r
-both_answered m e w prices violation verdict r judged answered = record {
-  c = Ok (judged.0, answered.c);
-  given = (judged.1.0, answered.given);
+both_answered m e w prices violation f r found answered = record {
+  c = Ok (found.0, answered.c);
+  given = (found.1.0, answered.given);
   out = answered.out
-      ∙ ap (λ (found : Verdict). with_input answered.c (λ claim. beside m found e w claim)) judged.1.1;
+      ∙ ap (λ (g : Findings). with_input answered.c (λ claim. beside m g e w claim)) found.1.1
+      ∙ ap (λ (v : Verdict). with_input answered.c (λ claim. joined (both_text m e w v (findings e w found.0) claim)
+      (verdict_reply m e w v (findings e w found.0)) (violation_reply e w claim)))
+      (told_verdict m e w found.0 (denominator-low name.Prices e prices found.0 found.1.0));
 }
 
 -- The same on inputs in their turn.
@@ -136,7 +144,7 @@ both_in_turn m election outcome prices violation e w of_prices of_violation r gi
 pub both_ended_at_prices : (m : Mode) (election : Turn) (outcome : FileTurn) (prices violation : Turn) (e : Instance)
     (w : List Bool) (why : Stop)
     → Gives StatesElection election (Ok e) → GivesOutcome e outcome (Ok w)
-    → IfTaken {A = Verdict} (Err why) (Gives (JudgesPrices name.Prices m e w) prices)
+    → IfTaken {A = Findings} (Err why) (Gives (FindsPrices name.Prices e w) prices)
     → violation None
     → IfSome (settled (λ r. r) (Err why)) (ReadsBoth m election outcome prices violation)
 both_ended_at_prices m election outcome prices violation e w (stop.Refused r) given taken judged violation_left =
@@ -145,12 +153,12 @@ both_ended_at_prices m election outcome prices violation e w (stop.Refused r) gi
 both_ended_at_prices m election outcome prices violation e w stop.Memory given taken judged violation_left = tt
 
 pub both_settled : (m : Mode) (election : Turn) (outcome : FileTurn) (prices violation : Turn) (e : Instance)
-    (w : List Bool) (verdict : Verdict) (d : Delivery) (work : Option Reply)
+    (w : List Bool) (f : Findings) (d : Delivery) (work : Option Reply)
     → Gives StatesElection election (Ok e) → GivesOutcome e outcome (Ok w)
-    → Gives (JudgesPrices name.Prices m e w) prices (Ok verdict) → violation (Some d)
-    → IfSome work (AnswersCertificate (StatesViolation name.Violation) (beside m verdict) e w d)
+    → Gives (FindsPrices name.Prices e w) prices (Ok f) → violation (Some d)
+    → IfSome work (AnswersCertificate (StatesViolation name.Violation) (beside m f) e w d)
     → IfSome work (ReadsBoth m election outcome prices violation)
-both_settled m election outcome prices violation e w verdict d None given taken judged delivered found = tt
-both_settled m election outcome prices violation e w verdict d (Some r) given taken judged delivered found =
+both_settled m election outcome prices violation e w f d None given taken judged delivered found = tt
+both_settled m election outcome prices violation e w f d (Some r) given taken judged delivered found =
     both_in_turn m election outcome prices violation e w judged.delivery d r given taken judged.delivered
-    (both_answered m e w judged.delivery d verdict r judged.stating found) delivered
+    (both_answered m e w judged.delivery d f r judged.stating found) delivered

@@ -1,8 +1,7 @@
 -- The answers of `explain`.
-use Rattle.std.proofs.Common.{◌≡◌, ◌∙◌, ◌++◌, ap, get_or, ℕ, Bool, List, [], ◌≤◌, refl, subst, sym, arith}
-use Rattle.std.specs.Prelude.{ℤ, pos, ◌-ℤ◌, IfSome, Option, Result, Some, None, Ok, Err, option_map, slice_get}
+use Rattle.std.proofs.Common.{◌≡◌, ◌∙◌, ◌++◌, ap, get_or, ℕ, Bool, List, [], ◌≤◌, ◌^◌, refl, subst, sym, arith}
+use Rattle.std.specs.Prelude.{ℤ, pos, ◌-ℤ◌, IfSome, Result, Ok, Err, slice_get}
 use Rattle.std.specs.List.{AllByRecursion}
-use Rattle.std.specs.Option.{option_or}
 use Rattle.pb_records.specs.Loading.{Delivery}
 use Rattle.pb_records.proofs.Each.{all-filter, all-first}
 use Rattle.pb_election.specs.Instance.{Instance, IsProject, IsSet, all_projects, projects, supporters}
@@ -14,30 +13,40 @@ use Rattle.pb_cohesion.specs.Conditions.{culprits_of_C1, culprits_of_C3, culprit
 use Rattle.pb_cohesion.specs.FirstV.{culprits_of_V2}
 use Rattle.pb_cohesion.specs.Outcome.{unfunded}
 use Rattle.pb_cohesion.specs.Refutations.{culprits_of_U1}
-use Rattle.pb_price.specs.Findings.{comparison, finding, findings, total_grains}
-use Rattle.pb_price.specs.First.{verdict_of}
+use Rattle.pb_price.specs.Findings.{finding, findings, total_grains}
+use Rattle.pb_price.specs.First.{First, verdict_of}
 use Rattle.pb_price.specs.OnGroups.{HoldsOfGroups, groups_by, on_groups}
 use Rattle.pb_price.specs.Told.{first_told}
 use Rattle.pb_price.specs.declared.Findings.{Findings}
 use Rattle.pb_price.specs.declared.Mode.{Mode}
+use Rattle.pb_price.specs.declared.Verdict.{Verdict}
+use Rattle.pb_cohesion.specs.declared.RefutationVerdict.{RefutationVerdict}
+use Rattle.pb_cohesion.specs.declared.ViolationVerdict.{ViolationVerdict}
 use Rattle.pb_price.specs.declared.OnGroups.{OnGroups}
 use Rattle.pb_price.specs.declared.OnGroups.TheVariants.{Strict, Weak, Little}
 use Rattle.pb_price.proofs.Told.{tell-first}
 use Rattle.pb_explain.specs.GroupLines.{below_reach, claim, group_lines, not_shown, within_reach}
 use Rattle.pb_explain.specs.PriceTable.{NameProjects, ShowsProject, price_table}
 use Rattle.pb_reply.specs.Replies.{Reply, with_input}
-use Rattle.pb_audit.specs.Answers.{verdict_reply}
+use Rattle.pb_audit.specs.Answers.{price_reply, verdict_reply}
+use Rattle.pb_json.specs.Prices.{FindingsNameProjects, VerdictNamesProject}
+use Rattle.pb_json.specs.Refutations as of_weights
+use Rattle.pb_json.specs.Violations as of_group
+use Rattle.pb_json.proofs.Named as named
+use Rattle.pb_reply.specs.Named.{PricesNameProject, RefutationNamesProject, ViolationNamesProject}
 use Rattle.pb_reply.specs.Promises.{PricesPromise}
 use Rattle.pb_audit.specs.Explained.{IsSoOfGroups, groups_told, explained_prices, explained_refutation, explained_reply, explained_rules, explained_violation, with_table}
 use Rattle.pb_reply.specs.Certificates.{Certificate, OfPrices, OfRefutation, OfViolation, StatesCertificate, StatesKind, as_certificate, kind_in}
 use Rattle.pb_reply.specs.Inputs.{Stated, StatesPrices, StatesRefutation, StatesViolation}
-use Rattle.pb_audit.specs.Inside.Certificates.{AnswersCertificate, IfTold, Promised}
+use Rattle.pb_audit.specs.Inside.Certificates.{AnswersCertificate, CanBeTold, IfTold, Promised}
 use Rattle.pb_reply.specs.Inside.Taking.{settled}
+use Rattle.pb_input.specs.declared.InputName.{InputName}
 use Rattle.pb_input.specs.declared.InputName.TheVariants as name
 use Rattle.pb_reply.specs.declared.stop.Stop.{Stop}
 use Rattle.pb_reply.specs.declared.status.Status.{Status}
 use Rattle.pb_audit.proofs.Audits.{lines_told}
-use Rattle.pb_reply.proofs.Culprits.{among-projects, missing-name, projects-are, unapproved-name}
+use Rattle.pb_json.proofs.Named.{among-projects, named-either, named-first, projects-are, unapproved-name}
+use Rattle.pb_reply.proofs.Culprits.{denominator-low, missing-name, told_names_project}
 use Rattle.pb_reply.proofs.Promises.{certificate_promises}
 
 -- what is said of groups follows from what the status promises
@@ -101,24 +110,14 @@ as_violation m e w d work is answers =
 
 pub as_refutation : (m : Mode) (e : Instance) (w : List Bool) (d : Delivery) (work : Result Reply Stop)
     → kind_in d ≡ kind.Refutation
-    → IfSome (settled (λ r. r) work) (AnswersCertificate StatesRefutation explained_refutation e w d)
+    → IfSome (settled (λ r. r) work) (AnswersCertificate StatesRefutation (explained_refutation m.stable) e w d)
     → IfTold (λ r. r) (AnswersCertificate StatesCertificate (explained_reply m) e w d) work
 as_refutation m e w d work is answers =
-    as_kind OfRefutation StatesRefutation explained_refutation m e w d work
+    as_kind OfRefutation StatesRefutation (explained_refutation m.stable) m e w d work
     (λ s given. subst (λ k. StatesKind k e d (as_certificate OfRefutation s)) (sym is) (s, given, refl)) (λ r. refl)
     answers
 
 -- the projects that the findings name
-named-first : (e : Instance) (bound : ℕ → ℕ) (amount : ℕ → ℤ) (o : Option ℕ) → IfSome o (IsProject e)
-    → IfSome (option_map (comparison bound amount) o) (λ m. IsProject e m.at)
-named-first e bound amount None h = tt
-named-first e bound amount (Some x) h = h
-
-named-either : (e : Instance) (o r : Option ℕ) → IfSome o (IsProject e) → IfSome r (IsProject e)
-    → IfSome (option_or o r) (IsProject e)
-named-either e None r h k = k
-named-either e (Some x) r h k = h
-
 names-project : (e : Instance) (culprits candidates : List ℕ) (bound : ℕ → ℕ) (amount : ℕ → ℤ)
     → AllByRecursion (IsProject e) culprits → AllByRecursion (IsProject e) candidates
     → ShowsProject e (finding culprits candidates bound amount)
@@ -151,10 +150,49 @@ pub misplaced_names_projects : (e : Instance) (w : List Bool) (r : Weights)
 misplaced_names_projects e w r =
     all-first (IsProject e) (culprits_of_U1 e w r) (all-filter (IsProject e) _ (all_projects e) (projects-are e))
 
+-- a verdict names a project of the election in a line and in an object alike
+pub price_verdict_named : (e : Instance) (v : Verdict) → PricesNameProject e v → VerdictNamesProject e v
+price_verdict_named e v h = grind arith
+
+pub group_verdict_named : (e : Instance) (v : ViolationVerdict) → ViolationNamesProject e v
+    → of_group.VerdictNamesProject e v
+group_verdict_named e v h = grind arith
+
+pub weights_verdict_named : (e : Instance) (v : RefutationVerdict) → RefutationNamesProject e v
+    → of_weights.VerdictNamesProject e v
+weights_verdict_named e v h = grind arith
+
+-- findings on prices can be told
+pub can_be_told : (input : InputName) (e : Instance) (w : List Bool) (d : Delivery) (p : Prices) (f : Findings)
+    → StatesPrices input e d (Ok p) → f ≡ findings e w p → CanBeTold e f
+can_be_told input e w d p f states is = record {
+  unit = unit-of p f (denominator-low input e d p states) is;
+  projects = subst (λ (g : Findings). NameProjects e g) (sym is) (findings_name_projects e w p);
+  objects = subst (λ (g : Findings). FindingsNameProjects e g) (sym is) (named.findings_name_projects e w p);
+  verdicts = verdicts;
+  verdict_objects = λ m. price_verdict_named e (verdict_of (first_told m f)) (verdicts m);
+}
+  where
+    verdicts : (m : Mode) → PricesNameProject e (verdict_of (first_told m f))
+    verdicts m = told_names_project m e w p f (denominator-low input e d p states) is
+
+    unit-of : (p : Prices) (f : Findings) → 1 ≤ p.denominator → f ≡ findings e w p → 10 ^ 6 ≤ f.grains_per_unit
+    unit-of p f low is = grind arith
+
+-- the verdict that the findings tell is that on the prices
+pub told_verdict : (m : Mode) (e : Instance) (w : List Bool) (p : Prices) → 1 ≤ p.denominator
+    → verdict_of (first_told m (findings e w p)) ≡ verdict_of (First m e w p)
+told_verdict m e w p low = grind (arith, tell-first)
+
 -- the reply on the findings on prices is that on the prices
+pub findings_answer : (m : Mode) (e : Instance) (w : List Bool) (p : Prices) (f : Findings) → 1 ≤ p.denominator
+    → f ≡ findings e w p
+    → verdict_reply m e w (verdict_of (first_told m f)) f ≡ price_reply m e w p
+findings_answer m e w p f low is = grind (arith, tell-first)
+
 pub findings_explain : (m : Mode) (e : Instance) (w : List Bool) (p : Prices) (f : Findings) → 1 ≤ p.denominator
     → f ≡ findings e w p
     → with_table
     (price_table m e f ++ groups_told (verdict_of (first_told m f)) (group_lines e w (on_groups m.exhaustive f.budgets f.limit)))
-    (verdict_reply m e (verdict_of (first_told m f))) ≡ explained_prices m e w p
+    (verdict_reply m e w (verdict_of (first_told m f)) f) ≡ explained_prices m e w p
 findings_explain m e w p f low is = grind (arith, tell-first)

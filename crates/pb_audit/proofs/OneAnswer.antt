@@ -1,14 +1,17 @@
 -- Each command but `explain` has one answer on what is delivered of its inputs; `OneExplained` has that of `explain`.
-use Rattle.std.proofs.Common.{◌≡◌, ◌∙◌, List, Option, ap, refl, subst, sym, Bool}
-use Rattle.std.specs.Prelude.{IfOk, Ok, Err}
+use Rattle.std.proofs.Common.{◌≡◌, ◌∙◌, List, [], Option, ap, refl, subst, sym, Bool}
+use Rattle.std.specs.Prelude.{IfOk, None, Ok, Err}
 use Rattle.pb_election.specs.Instance.{Instance}
 use Rattle.pb_records.specs.Loading.{Delivery}
 use Rattle.pb_certificate.specs.Prices.{Prices}
+use Rattle.pb_cohesion.specs.declared.GroupFigures.{GroupFigures}
+use Rattle.pb_cohesion.proofs.OneShown.{figures_are_one, figures_exist}
 use Rattle.pb_price.specs.declared.Mode.{Mode}
-use Rattle.pb_reply.specs.Replies.{Answer, Reply, answer_of, refused, with_input, TellsReply}
+use Rattle.pb_reply.specs.Replies.{Answer, Reply, answer_as, answer_of, refused, with_input, TellsReply}
 use Rattle.pb_audit.specs.Answers.{AnswersAudit, AnswersElection, AnswersPrices, AnswersRefutation, AnswersTidy, AnswersViolation, AuditRules, audit_reply, price_rules, read_reply, refutation_rules, tidy_answer, violation_rules}
 use Rattle.pb_audit.specs.Both.{AnswersBoth, Both, GroupAndDemand, StatesBoth, both_rules}
-use Rattle.pb_reply.specs.Inputs.{FilesState, Stated, StatesElection, StatesOutcome, StatesPrices, audited}
+use Rattle.pb_reply.specs.Inputs.{FilesState, Stated, StatesElection, StatesFile, StatesOutcome, StatesPrices, audited}
+use Rattle.pb_audit.specs.Figured.{AnswersFigured, AreFigured, FigureRules, FiguresPromise, OfOutcome, outcome_reply}
 use Rattle.pb_audit.specs.Margins.{margin_rules}
 use Rattle.pb_audit.specs.OneAnswer.{JustOne}
 use Rattle.pb_reply.specs.Inside.Taking.{AuditsOutcome}
@@ -18,6 +21,7 @@ use Rattle.pb_audit.proofs.Audits.{certificate_answered, election_refused, outco
 use Rattle.pb_audit.proofs.Boths.{both_promises}
 use Rattle.pb_audit.proofs.OneStated.{election-one, file-one, outcome-one, prices-one, refutation-one, violation-one}
 use Rattle.pb_reply.proofs.Promises.{prices_promise, refutation_promises, violation_promises}
+use Rattle.pb_reply.specs.declared.answer.Format.{Format}
 use Rattle.pb_reply.specs.declared.status.Status.{Status}
 
 -- The read line.
@@ -155,18 +159,99 @@ pub violation-reply-one : (election : Delivery) (outcome : Option Delivery) (cer
 violation-reply-one =
     audit-one violation_rules (violation-one name.Certificate) (λ e w d claim given. violation_promises e w claim)
 
-pub refutation-reply-one : (election : Delivery) (outcome : Option Delivery) (certificate : Delivery)
-    → JustOne (AnswersRefutation election outcome certificate)
-refutation-reply-one = audit-one refutation_rules refutation-one (λ e w d r given. refutation_promises e w r)
+pub refutation-reply-one : (stable : Bool) (election : Delivery) (outcome : Option Delivery) (certificate : Delivery)
+    → JustOne (AnswersRefutation stable election outcome certificate)
+refutation-reply-one stable =
+    audit-one (refutation_rules stable) refutation-one (λ e w d r given. refutation_promises stable e w r)
 
 pub margins-reply-one : (election : Delivery) (outcome : Option Delivery) (certificate : Delivery)
     → JustOne (AnswersAudit margin_rules election outcome certificate)
 margins-reply-one = audit-one margin_rules (prices-one name.Certificate) (λ e w d p given. refl)
 
-pub tells-one : (is_reply : Reply → Type 0) → JustOne is_reply → JustOne (TellsReply is_reply)
-tells-one is_reply h = record {
-  one = (answer_of h.one.0, record { reply = h.one.0; of_inputs = h.one.1; out = refl });
-  no_other = λ r s a b. a.out ∙ ap answer_of (h.no_other a.reply b.reply a.of_inputs b.of_inputs) ∙ sym b.out;
+pub tells-one : (format : Format) (is_reply : Reply → Type 0) → JustOne is_reply → JustOne (TellsReply format is_reply)
+tells-one format is_reply h = record {
+  one = (answer_as format h.one.0, record { reply = h.one.0; of_inputs = h.one.1; out = refl });
+  no_other = λ r s a b. a.out ∙ ap (answer_as format) (h.no_other a.reply b.reply a.of_inputs b.of_inputs) ∙ sym b.out;
+}
+
+-- What is told by the figures of all projects.
+
+abbrev Figured : FigureRules → Stated Instance → Option (Stated (List Bool)) → List GroupFigures → Type 0
+Figured rules e o xs = OfOutcome (λ e w. AreFigured rules e w xs) e o
+
+figured-same : (rules : FigureRules) (e : Instance) (w : Stated (List Bool)) (xs ys : List GroupFigures)
+    → IfOk w (λ w. AreFigured rules e w xs) → IfOk w (λ w. AreFigured rules e w ys)
+    → with_input w (λ w. rules.reply e w xs) ≡ with_input w (λ w. rules.reply e w ys)
+figured-same rules e (Ok w) xs ys a b = ap (rules.reply e w) (figures_are_one rules.measure e w xs ys a.figures b.figures)
+figured-same rules e (Err r) xs ys a b = refl
+
+answers-same : (rules : FigureRules) (outcome : Option Delivery) (e : Stated Instance) (o p : Option (Stated (List Bool)))
+    (xs ys : List GroupFigures)
+    → IfOk e (λ i. StatesFile (StatesOutcome i) outcome o) → IfOk e (λ i. StatesFile (StatesOutcome i) outcome p)
+    → Figured rules e o xs → Figured rules e p ys
+    → outcome_reply (λ e w. rules.reply e w xs) e o ≡ outcome_reply (λ e w. rules.reply e w ys) e p
+answers-same rules outcome (Err r) o p xs ys given also a b = refl
+answers-same rules outcome (Ok e) o p xs ys given also a b =
+    let same : p ≡ o = (file-one (StatesOutcome e) (outcome-one e) outcome).no_other p o also given in
+    let of : IfOk (audited e o) (λ w. AreFigured rules e w ys) =
+    subst (λ (x : Option (Stated (List Bool))). IfOk (audited e x) (λ w. AreFigured rules e w ys)) same b in
+    figured-same rules e (audited e o) xs ys a of
+    ∙ ap (λ (x : Option (Stated (List Bool))). with_input (audited e x) (λ w. rules.reply e w ys)) (sym same)
+
+figured-some : (rules : FigureRules) → FiguresPromise rules → (election : Delivery) (outcome : Option Delivery)
+    → (r : Reply) × AnswersFigured rules election outcome r
+figured-some rules each election outcome = by (election-one election).one.0 (election-one election).one.1
+  where
+    with-outcome : (e : Instance) → StatesElection election (Ok e) → (o : Option (Stated (List Bool)))
+        → StatesFile (StatesOutcome e) outcome o → (w : Stated (List Bool)) → audited e o ≡ w
+        → (xs : List GroupFigures) × IfOk w (λ w. AreFigured rules e w xs)
+        → (r : Reply) × AnswersFigured rules election outcome r
+    with-outcome e given o states w is found = (
+      with_input w (λ w. rules.reply e w found.0),
+      record {
+        e = Ok e;
+        o = o;
+        xs = found.0;
+        election_states = given;
+        outcome_states = states;
+        figured = subst (λ (w : Stated (List Bool)). IfOk w (λ w. AreFigured rules e w found.0)) (sym is) found.1;
+        out = ap (λ (w : Stated (List Bool)). with_input w (λ w. rules.reply e w found.0)) (sym is);
+      },
+    )
+
+    figured : (e : Instance) (w : Stated (List Bool)) → (xs : List GroupFigures) × IfOk w (λ w. AreFigured rules e w xs)
+    figured e (Ok w) = let xs = figures_exist rules.measure e w in
+        (xs.0, record { figures = xs.1; promised = each e w xs.0 xs.1 })
+    figured e (Err r) = ([], tt)
+
+    by : (e : Stated Instance) → StatesElection election e → (r : Reply) × AnswersFigured rules election outcome r
+    by (Ok e) given = let o = (file-one (StatesOutcome e) (outcome-one e) outcome).one in
+        with-outcome e given o.0 o.1 (audited e o.0) refl (figured e (audited e o.0))
+    by (Err r) given = (
+      refused r,
+      record {
+        e = Err r;
+        o = None;
+        xs = [];
+        election_states = given;
+        outcome_states = tt;
+        figured = tt;
+        out = refl;
+      },
+    )
+
+pub figured-one : (rules : FigureRules) → FiguresPromise rules → (election : Delivery) (outcome : Option Delivery)
+    → JustOne (AnswersFigured rules election outcome)
+figured-one rules each election outcome = record {
+  one = figured-some rules each election outcome;
+  no_other = λ r s a b. (
+      let same : b.e ≡ a.e = (election-one election).no_other b.e a.e b.election_states a.election_states in
+      let states = subst (λ (e : Stated Instance). IfOk e (λ i. StatesFile (StatesOutcome i) outcome b.o)) same
+      b.outcome_states in
+      let figured = subst (λ (e : Stated Instance). Figured rules e b.o b.xs) same b.figured in
+      a.out ∙ answers-same rules outcome a.e a.o b.o a.xs b.xs a.outcome_states states a.figured figured
+      ∙ ap (λ (e : Stated Instance). outcome_reply (λ e w. rules.reply e w b.xs) e b.o) (sym same) ∙ sym b.out
+      );
 }
 
 -- Both certificates.

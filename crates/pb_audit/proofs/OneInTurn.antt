@@ -8,17 +8,22 @@ use Rattle.pb_reply.specs.Inputs.{FilesState, InTurn, Stated, StatesElection, St
 use Rattle.pb_reply.specs.Replies.{Answer, Reply, TellsReply}
 use Rattle.pb_reply.specs.Turns.{gives, gives_file}
 use Rattle.pb_input.specs.declared.InputName.TheVariants as name
+use Rattle.pb_reply.specs.declared.answer.Format.{Format}
+use Rattle.pb_reply.specs.declared.answer.Format.TheVariants.{Lines}
 use Rattle.pb_reply.specs.declared.status.Status.{Status}
 use Rattle.pb_audit.specs.Answers.{AnswersAudit, AnswersElection, AnswersTidy, AuditRules, OfAccepted, audit_reply, price_rules, refutation_rules, violation_rules}
 use Rattle.pb_audit.specs.Both.{AnswersBoth, Both, ReadsBoth, StatesBoth, both_rules}
 use Rattle.pb_audit.specs.Explained.{explained_rules}
+use Rattle.pb_audit.specs.Figured.{AnswersFigured, FigureRules, FiguresPromise, ReadsFigured}
+use Rattle.pb_audit.specs.Groups.{explained_groups_rules, group_margin_rules, groups_rules}
 use Rattle.pb_audit.specs.InTurn.{AfterOutcome, ReadsAudit, ReadsElection, ReadsTidy}
 use Rattle.pb_audit.specs.Margins.{margin_rules}
 use Rattle.pb_audit.specs.OneAnswer.{JustOne}
 use Rattle.pb_audit.specs.Questions.{Answers}
 use Rattle.pb_audit.specs.declared.question.Question.{Question}
 use Rattle.pb_audit.specs.declared.question.Question.TheVariants as question
-use Rattle.pb_audit.proofs.OneAnswer.{both-one, margins-reply-one, price-reply-one, read-one, refutation-reply-one, tells-one, tidy-one, violation-reply-one}
+use Rattle.pb_audit.proofs.FallingShort.{groups_promise}
+use Rattle.pb_audit.proofs.OneAnswer.{both-one, figured-one, margins-reply-one, price-reply-one, read-one, refutation-reply-one, tells-one, tidy-one, violation-reply-one}
 use Rattle.pb_audit.proofs.OneExplained.{explained-one}
 
 -- what says the same of the same things
@@ -28,9 +33,9 @@ one-of P Q to from h = record {
   no_other = λ a b x y. h.no_other a b (from a x) (from b y);
 }
 
-one-told : (P Q : Reply → Type 0) → ((r : Reply) → P r → Q r) → ((r : Reply) → Q r → P r) → JustOne P
-    → JustOne (TellsReply Q)
-one-told P Q to from h = tells-one Q (one-of P Q to from h)
+one-told : (format : Format) (P Q : Reply → Type 0) → ((r : Reply) → P r → Q r) → ((r : Reply) → Q r → P r) → JustOne P
+    → JustOne (TellsReply format Q)
+one-told format P Q to from h = tells-one format Q (one-of P Q to from h)
 
 -- an input whose turn came, or not
 came : {A : Type 0} {D : Type 0} (s : Stated A) (d : D) → InTurn s (λ a. d ≡ d) (Unit {0})
@@ -106,21 +111,54 @@ audit-in-turn rules election outcome certificate r a = record {
   certificate_delivered = came-after a.e a.o certificate;
 }
 
-audit-told : {A : Type 0} (rules : AuditRules A) (election : Delivery) (outcome : Option Delivery)
+audit-told : {A : Type 0} (format : Format) (rules : AuditRules A) (election : Delivery) (outcome : Option Delivery)
     (certificate : Delivery) → JustOne (AnswersAudit rules election outcome certificate)
-    → JustOne (TellsReply (ReadsAudit rules (gives election) (gives_file outcome) (gives certificate)))
-audit-told rules election outcome certificate h =
-    one-told (AnswersAudit rules election outcome certificate)
+    → JustOne (TellsReply format (ReadsAudit rules (gives election) (gives_file outcome) (gives certificate)))
+audit-told format rules election outcome certificate h =
+    one-told format (AnswersAudit rules election outcome certificate)
     (ReadsAudit rules (gives election) (gives_file outcome) (gives certificate))
     (audit-in-turn rules election outcome certificate) (audit-of rules election outcome certificate) h
 
 -- An election alone.
 
-read-told : (election : Delivery) → JustOne (TellsReply (ReadsElection (gives election)))
-read-told election =
-    one-told (AnswersElection election) (ReadsElection (gives election))
+read-told : (format : Format) (election : Delivery) → JustOne (TellsReply format (ReadsElection (gives election)))
+read-told format election =
+    one-told format (AnswersElection election) (ReadsElection (gives election))
     (λ r a. record { delivery = election; delivered = refl; answers = a })
     (λ r a. subst (λ (d : Delivery). AnswersElection d r) a.delivered a.answers) (read-one election)
+
+-- An election and its outcome.
+
+figured-of : (rules : FigureRules) (election : Delivery) (outcome : Option Delivery) (r : Reply)
+    → ReadsFigured rules (gives election) (gives_file outcome) r → AnswersFigured rules election outcome r
+figured-of rules election outcome r a = record {
+  e = a.answers.e;
+  o = a.answers.o;
+  xs = a.answers.xs;
+  election_states =
+      subst (λ (d : Delivery). StatesElection d a.answers.e) a.election_delivered a.answers.election_states;
+  outcome_states = go a.answers.e a.answers.outcome_states a.outcome_delivered;
+  figured = a.answers.figured;
+  out = a.answers.out;
+}
+  where
+    go : (e : Stated Instance) → IfOk e (λ i. StatesFile (StatesOutcome i) a.of_outcome a.answers.o)
+        → InTurn e (λ i. a.of_outcome ≡ outcome) (Unit {0})
+        → IfOk e (λ i. StatesFile (StatesOutcome i) outcome a.answers.o)
+    go (Ok i) given is = subst (λ (d : Option Delivery). StatesFile (StatesOutcome i) d a.answers.o) is given
+    go (Err r) given is = tt
+
+figured-told : (format : Format) (rules : FigureRules) → FiguresPromise rules → (election : Delivery) (outcome : Option Delivery)
+    → JustOne (TellsReply format (ReadsFigured rules (gives election) (gives_file outcome)))
+figured-told format rules each election outcome =
+    one-told format (AnswersFigured rules election outcome) (ReadsFigured rules (gives election) (gives_file outcome))
+    (λ r a. record {
+      of_election = election;
+      of_outcome = outcome;
+      answers = a;
+      election_delivered = refl;
+      outcome_delivered = came a.e outcome;
+    }) (figured-of rules election outcome) (figured-one rules each election outcome)
 
 -- The canonical text.
 
@@ -216,11 +254,11 @@ both-came (Ok i) o c violation = by (audited i o)
     by (Err why) = tt
 both-came (Err why) o c violation = tt
 
-both-told : (m : Mode) (election : Delivery) (outcome : Option Delivery) (prices violation : Delivery)
-    → JustOne (TellsReply (ReadsBoth m (gives election) (gives_file outcome) (gives prices) (gives violation)))
+both-told : (format : Format) (m : Mode) (election : Delivery) (outcome : Option Delivery) (prices violation : Delivery)
+    → JustOne (TellsReply format (ReadsBoth m (gives election) (gives_file outcome) (gives prices) (gives violation)))
 unfolding audit-in-turn
-both-told m election outcome prices violation =
-    one-told (AnswersBoth m election outcome prices violation)
+both-told format m election outcome prices violation =
+    one-told format (AnswersBoth m election outcome prices violation)
     (ReadsBoth m (gives election) (gives_file outcome) (gives prices) (gives violation))
     (λ r a. record {
       of_violation = violation;
@@ -228,33 +266,45 @@ both-told m election outcome prices violation =
       violation_delivered = both-came a.e a.o a.c violation;
     }) (both-of m election outcome prices violation) (both-one m election outcome prices violation)
 
-pub question-one : (q : Question) (election : Delivery) (outcome : Option Delivery) (certificate violation : Delivery)
-    → JustOne (Answers q (gives election) (gives_file outcome) (gives certificate) (gives violation))
-question-one question.Read election outcome certificate violation =
-    one-of (TellsReply (ReadsElection (gives election))) _ (λ a x. (x, tt, tt, tt)) (λ a x. x.0) (read-told election)
-question-one (question.Prices m) election outcome certificate violation =
-    one-of (TellsReply (ReadsAudit (price_rules m) (gives election) (gives_file outcome) (gives certificate))) _
+pub question-one : (format : Format) (q : Question) (election : Delivery) (outcome : Option Delivery) (certificate violation : Delivery)
+    → JustOne (Answers format q (gives election) (gives_file outcome) (gives certificate) (gives violation))
+question-one format question.Read election outcome certificate violation =
+    one-of (TellsReply format (ReadsElection (gives election))) _ (λ a x. (x, tt, tt, tt)) (λ a x. x.0) (read-told format election)
+question-one format (question.Groups k) election outcome certificate violation =
+    one-of (TellsReply format (ReadsFigured (groups_rules k) (gives election) (gives_file outcome))) _
+    (λ a x. (x, tt, tt)) (λ a x. x.0) (figured-told format (groups_rules k) (groups_promise k) election outcome)
+question-one format (question.ExplainGroups k) election outcome certificate violation =
+    one-of (TellsReply format (ReadsFigured (explained_groups_rules k) (gives election) (gives_file outcome))) _
+    (λ a x. (x, tt, tt)) (λ a x. x.0)
+    (figured-told format (explained_groups_rules k) (groups_promise k) election outcome)
+question-one format (question.GroupMargins k) election outcome certificate violation =
+    one-of (TellsReply Lines (ReadsFigured (group_margin_rules k) (gives election) (gives_file outcome))) _
+    (λ a x. (x, tt, tt)) (λ a x. x.0)
+    (figured-told Lines (group_margin_rules k) (λ e w xs figures. refl) election outcome)
+question-one format (question.Prices m) election outcome certificate violation =
+    one-of (TellsReply format (ReadsAudit (price_rules m) (gives election) (gives_file outcome) (gives certificate))) _
     (λ a x. (x, tt)) (λ a x. x.0)
-    (audit-told (price_rules m) election outcome certificate (price-reply-one m election outcome certificate))
-question-one question.Violation election outcome certificate violation =
-    one-of (TellsReply (ReadsAudit violation_rules (gives election) (gives_file outcome) (gives certificate))) _
+    (audit-told format (price_rules m) election outcome certificate (price-reply-one m election outcome certificate))
+question-one format question.Violation election outcome certificate violation =
+    one-of (TellsReply format (ReadsAudit violation_rules (gives election) (gives_file outcome) (gives certificate))) _
     (λ a x. (x, tt)) (λ a x. x.0)
-    (audit-told violation_rules election outcome certificate (violation-reply-one election outcome certificate))
-question-one question.Refutation election outcome certificate violation =
-    one-of (TellsReply (ReadsAudit refutation_rules (gives election) (gives_file outcome) (gives certificate))) _
+    (audit-told format violation_rules election outcome certificate (violation-reply-one election outcome certificate))
+question-one format (question.Refutation stable) election outcome certificate violation =
+    one-of (TellsReply format (ReadsAudit (refutation_rules stable) (gives election) (gives_file outcome) (gives certificate))) _
     (λ a x. (x, tt)) (λ a x. x.0)
-    (audit-told refutation_rules election outcome certificate (refutation-reply-one election outcome certificate))
-question-one (question.Both m) election outcome certificate violation =
-    one-of (TellsReply (ReadsBoth m (gives election) (gives_file outcome) (gives certificate) (gives violation))) _
-    (λ a x. x) (λ a x. x) (both-told m election outcome certificate violation)
-question-one (question.Explain m) election outcome certificate violation =
-    one-of (TellsReply (ReadsAudit (explained_rules m) (gives election) (gives_file outcome) (gives certificate))) _
+    (audit-told format (refutation_rules stable) election outcome certificate
+    (refutation-reply-one stable election outcome certificate))
+question-one format (question.Both m) election outcome certificate violation =
+    one-of (TellsReply format (ReadsBoth m (gives election) (gives_file outcome) (gives certificate) (gives violation))) _
+    (λ a x. x) (λ a x. x) (both-told format m election outcome certificate violation)
+question-one format (question.Explain m) election outcome certificate violation =
+    one-of (TellsReply format (ReadsAudit (explained_rules m) (gives election) (gives_file outcome) (gives certificate))) _
     (λ a x. (x, tt)) (λ a x. x.0)
-    (audit-told (explained_rules m) election outcome certificate (explained-one m election outcome certificate))
-question-one question.Margins election outcome certificate violation =
-    one-of (TellsReply (ReadsAudit margin_rules (gives election) (gives_file outcome) (gives certificate))) _
+    (audit-told format (explained_rules m) election outcome certificate (explained-one m election outcome certificate))
+question-one format question.Margins election outcome certificate violation =
+    one-of (TellsReply Lines (ReadsAudit margin_rules (gives election) (gives_file outcome) (gives certificate))) _
     (λ a x. (x, tt)) (λ a x. x.0)
-    (audit-told margin_rules election outcome certificate (margins-reply-one election outcome certificate))
-question-one question.Tidy election outcome certificate violation =
+    (audit-told Lines margin_rules election outcome certificate (margins-reply-one election outcome certificate))
+question-one format question.Tidy election outcome certificate violation =
     one-of (ReadsTidy (gives election) (gives certificate)) _ (λ a x. (x, tt, tt)) (λ a x. x.0)
     (tidy-in-turn-one election certificate)

@@ -1,5 +1,5 @@
 -- A folder has one report.
-use Rattle.std.proofs.Common.{◌≡◌, ◌∙◌, List, [], ◌∷◌, Option, Some, None, ap, refl, subst, sym}
+use Rattle.std.proofs.Common.{◌≡◌, ◌∙◌, Bool, List, [], ◌∷◌, Option, Some, None, ap, refl, subst, sym}
 use Rattle.pb_records.specs.Loading.{Delivery}
 use Rattle.pb_price.specs.declared.Mode.{Mode}
 use Rattle.pb_audit.specs.Answers.{AnswersPrices, AnswersViolation}
@@ -77,8 +77,8 @@ each-same m (files ∷ rest) (x ∷ xs) (y ∷ ys) h k =
     let more = each-same m rest xs ys h.1 k.1 in
     λ i. first i ∷ more i
 
-pub report-one : (m : Mode) (entries : List Files) → JustOne (ReportOf m entries)
-report-one m entries = record {
-  one = let found = each-some m entries in (report_on found.0, record { found = found.0; each = found.1; out = refl });
-  no_other = λ r s a b. a.out ∙ ap report_on (each-same m entries a.found b.found a.each b.each) ∙ sym b.out;
+pub report-one : (as_json : Bool) (m : Mode) (entries : List Files) → JustOne (ReportOf as_json m entries)
+report-one as_json m entries = record {
+  one = let found = each-some m entries in (report_on as_json found.0, record { found = found.0; each = found.1; out = refl });
+  no_other = λ r s a b. a.out ∙ ap (report_on as_json) (each-same m entries a.found b.found a.each b.each) ∙ sym b.out;
 }

@@ -1,7 +1,7 @@
 -- Texts that are made line by line.
 use Rattle.std.proofs.Common.{◌≡◌, List, ◌++◌, append_assoc, arith}
 use Rattle.std.proofs.lemmas.List.Concat.{flat_map-append}
-use Rattle.std.specs.Prelude.{Option, codes}
+use Rattle.std.specs.Prelude.{Option, codes, false}
 use Rattle.pb_records.specs.Records.{Text}
 use Rattle.pb_reply.specs.Replies.{Reply, text_of}
 use Rattle.pb_audit.specs.Reports.{certificate_lines, file_lines, lines_of}
@@ -17,5 +17,5 @@ pub found_text : (spelled name : Text) (read : Reply) (prices violation : Option
     → first ≡ old ++ text_of (file_lines (spelled ++ codes ".pb") read)
     → second ≡ first ++ text_of (certificate_lines (spelled ++ codes ".prices.csv") prices)
     → new ≡ second ++ text_of (certificate_lines (spelled ++ codes ".violation.csv") violation)
-    → new ≡ old ++ text_of (lines_of (record { name = name; read = read; prices = prices; violation = violation }))
+    → new ≡ old ++ text_of (lines_of false (record { name = name; read = read; prices = prices; violation = violation }))
 found_text spelled name read prices violation old first second new is one two three = grind (arith, text_after)

@@ -6,12 +6,18 @@ use Rattle.pb_certificate.specs.Prices.Canon.{Canon}
 use Rattle.pb_certificate.specs.Prices.{Prices}
 use Rattle.pb_certificate.specs.Refutations.{Weights}
 use Rattle.pb_certificate.specs.declared.violations.measure.Measure.{Measure}
-use Rattle.pb_cohesion.specs.FirstU.{FirstU, refutation_verdict_of}
+use Rattle.pb_cohesion.specs.FirstU.{refutation_verdict}
 use Rattle.pb_cohesion.specs.FirstV.{FirstV, violation_verdict_of}
+use Rattle.pb_cohesion.specs.RefutationFindings.{refutation_findings}
 use Rattle.pb_cohesion.specs.Satisfactions.{worth_by}
+use Rattle.pb_cohesion.specs.ViolationFindings.{violation_findings}
+use Rattle.pb_cohesion.specs.declared.RefutationFindings.{RefutationFindings}
 use Rattle.pb_cohesion.specs.declared.RefutationVerdict.{RefutationVerdict}
+use Rattle.pb_cohesion.specs.declared.ViolationFindings.{ViolationFindings}
 use Rattle.pb_cohesion.specs.declared.ViolationVerdict.{ViolationVerdict}
+use Rattle.pb_price.specs.Findings.{findings}
 use Rattle.pb_price.specs.First.{First, verdict_of}
+use Rattle.pb_price.specs.declared.Findings.{Findings}
 use Rattle.pb_price.specs.declared.Mode.{Mode}
 use Rattle.pb_price.specs.declared.Verdict.{Verdict}
 use Rattle.pb_reply.specs.Replies.{Answer, Reply, answer_of, price_status, refused, refutation_status, violation_status, with_input}
@@ -19,12 +25,13 @@ use Rattle.pb_reply.specs.Inputs.{FilesState, Stated, StatesElection, StatesPric
 use Rattle.pb_reply.specs.Lines.{notes, price_line, read_line, refutation_line, violation_line}
 use Rattle.pb_reply.specs.Promises.{PricesPromise, RefutationPromises, ViolationPromises}
 use Rattle.pb_input.specs.declared.InputName.TheVariants as name
+use Rattle.pb_audit.specs.Objects.{price_text, read_text, refutation_text, violation_text}
 use Rattle.pb_reply.specs.declared.status.Status.{Status}
 use Rattle.pb_reply.specs.declared.status.Status.TheVariants.{Yes}
 
 -- the read line and the notes
 abbrev pub read_reply : Stated Instance → Reply
-read_reply election = with_input election (λ e. record { lines = read_line e ∷ notes e; status = Yes })
+read_reply election = with_input election (λ e. record { lines = read_line e ∷ notes e; json = read_text e; status = Yes })
 
 -- the canonical text of the prices
 abbrev pub tidy_answer : Stated Instance → Stated Prices → Answer Status
@@ -39,37 +46,53 @@ pub record AuditRules (A : Type 0) : Type 1 where
   pub reply : Instance → List Bool → A → Reply
   pub promises : Status → Instance → List Bool → A → Type 0
 
--- the verdict on prices
-abbrev pub verdict_reply : Mode → Instance → Verdict → Reply
-verdict_reply m e v = record { lines = price_line m.stable e v ∷ []; status = price_status v }
+-- what is found of prices: the verdict, and for programs also what each condition comes to
+abbrev pub verdict_reply : Mode → Instance → List Bool → Verdict → Findings → Reply
+verdict_reply m e w v f = record {
+  lines = price_line m.stable e v ∷ [];
+  json = price_text m e w v f;
+  status = price_status v;
+}
 
 abbrev pub price_reply : Mode → Instance → List Bool → Prices → Reply
-price_reply m e w p = verdict_reply m e (verdict_of (First m e w p))
+price_reply m e w p = verdict_reply m e w (verdict_of (First m e w p)) (findings e w p)
 
 abbrev pub price_rules : Mode → AuditRules Prices
 price_rules m = record { states = StatesPrices name.Certificate; reply = price_reply m; promises = PricesPromise m }
 
--- the verdict on a group and its demand, by the measure that the certificate states
-abbrev pub group_reply : Instance → ViolationVerdict → Reply
-group_reply e v = record { lines = violation_line e v ∷ []; status = violation_status v }
+-- the same of a group and its demand, by the measure that the certificate states
+abbrev pub group_reply : Measure → Instance → List Bool → ViolationVerdict → ViolationFindings → Reply
+group_reply k e w v f = record {
+  lines = violation_line e v ∷ [];
+  json = violation_text k e w v f;
+  status = violation_status v;
+}
 
 abbrev pub violation_reply : Instance → List Bool → Measure × List ℕ × List ℕ → Reply
-violation_reply e w v = group_reply e (violation_verdict_of (FirstV (worth_by v.0 e) e w v.1 v.2))
+violation_reply e w v =
+    group_reply v.0 e w (violation_verdict_of (FirstV (worth_by v.0 e) e w v.1 v.2))
+    (violation_findings (worth_by v.0 e) e w v.1 v.2)
 
 abbrev pub violation_rules : AuditRules (Measure × List ℕ × List ℕ)
 violation_rules =
     record { states = StatesViolation name.Certificate; reply = violation_reply; promises = ViolationPromises }
 
--- the verdict on weights
-abbrev pub weights_reply : Instance → RefutationVerdict → Reply
-weights_reply e v = record { lines = refutation_line e v ∷ []; status = refutation_status v }
+-- what is found of weights
+abbrev pub weights_reply : Instance → List Bool → RefutationVerdict → RefutationFindings → Reply
+weights_reply e w v f = record {
+  lines = refutation_line e v ∷ [];
+  json = refutation_text e w v f;
+  status = refutation_status v;
+}
 
-abbrev pub refutation_reply : Instance → List Bool → Weights → Reply
-refutation_reply e w r = weights_reply e (refutation_verdict_of r.cover (FirstU e w r))
+-- the same of weights, by whether stable prices are asked about
+abbrev pub refutation_reply : Bool → Instance → List Bool → Weights → Reply
+refutation_reply stable e w r =
+    weights_reply e w (refutation_verdict stable e w r) (refutation_findings stable e w r)
 
-abbrev pub refutation_rules : AuditRules Weights
-refutation_rules =
-    record { states = StatesRefutation; reply = refutation_reply; promises = RefutationPromises }
+abbrev pub refutation_rules : Bool → AuditRules Weights
+refutation_rules stable =
+    record { states = StatesRefutation; reply = refutation_reply stable; promises = RefutationPromises stable }
 
 -- the reply on an election, an outcome and a certificate
 abbrev pub audit_reply : {A : Type 0} → (Instance → List Bool → A → Reply) → Stated Instance
@@ -114,5 +137,6 @@ AnswersPrices m election outcome certificate r = AnswersAudit (price_rules m) el
 abbrev pub AnswersViolation : Delivery → Option Delivery → Delivery → Reply → Type 0
 AnswersViolation election outcome certificate r = AnswersAudit violation_rules election outcome certificate r
 
-abbrev pub AnswersRefutation : Delivery → Option Delivery → Delivery → Reply → Type 0
-AnswersRefutation election outcome certificate r = AnswersAudit refutation_rules election outcome certificate r
+abbrev pub AnswersRefutation : Bool → Delivery → Option Delivery → Delivery → Reply → Type 0
+AnswersRefutation stable election outcome certificate r =
+    AnswersAudit (refutation_rules stable) election outcome certificate r

@@ -1,5 +1,5 @@
 -- What is answered on a price certificate and a violation certificate for one outcome.
-use Rattle.std.specs.Prelude.{◌≡◌, ◌↔◌, ◌++◌, ℕ, IsTrue, Bool, List, Option, IfOk, Ok, Err, Some, None}
+use Rattle.std.specs.Prelude.{◌≡◌, ◌↔◌, ◌++◌, ℕ, IsTrue, Bool, true, false, List, Option, IfOk, Ok, Err, Some, None}
 use Rattle.pb_election.specs.Instance.{Instance}
 use Rattle.pb_records.specs.Loading.{Delivery}
 use Rattle.pb_certificate.specs.Prices.{Prices}
@@ -9,14 +9,19 @@ use Rattle.pb_cohesion.specs.Groups.{Violates}
 use Rattle.pb_cohesion.specs.Satisfactions.{worth_by}
 use Rattle.pb_price.specs.OnGroups.{IsStrict}
 use Rattle.pb_price.specs.Supports.{Supports}
+use Rattle.pb_price.specs.Findings.{findings}
+use Rattle.pb_price.specs.First.{First, verdict_of}
+use Rattle.pb_price.specs.Told.{first_told}
+use Rattle.pb_price.specs.declared.Findings.{Findings}
 use Rattle.pb_price.specs.declared.Mode.{Mode}
-use Rattle.pb_price.specs.declared.Verdict.{Verdict}
 use Rattle.pb_audit.specs.Answers.{AnswersAudit, AuditRules, price_reply, verdict_reply, violation_reply}
 use Rattle.pb_reply.specs.Replies.{Reply, with_input}
 use Rattle.pb_reply.specs.Inputs.{InTurn, Stated, StatesPrices, StatesViolation}
 use Rattle.pb_reply.specs.Promises.{PricesPromise, ViolationPromises}
 use Rattle.pb_reply.specs.Turns.{FileTurn, Turn}
 use Rattle.pb_audit.specs.InTurn.{AfterOutcome, ReadsAudit}
+use Rattle.pb_audit.specs.Objects.{both_text}
+use Rattle.pb_records.specs.Records.{Text}
 use Rattle.pb_input.specs.declared.InputName.TheVariants as name
 use Rattle.pb_reply.specs.declared.status.Status.{Status}
 use Rattle.pb_reply.specs.declared.status.Status.TheVariants.{Yes, No}
@@ -26,22 +31,35 @@ use Rattle.pb_reply.specs.declared.status.Unmet.TheVariants as unmet
 abbrev pub GroupAndDemand : Type 0
 GroupAndDemand = Measure × List ℕ × List ℕ
 
--- the lines of both, and yes where both are a yes; where neither is, what fails first of each
+-- the lines of both, and an object with the object on each; yes where both are a yes; where neither is, what fails
+-- first of each
 abbrev pub yes_where_both : Status → Status → Status
 yes_where_both Yes second = second
 yes_where_both (No (unmet.Prices f)) (No (unmet.Violation g)) = No (unmet.Both f g)
 yes_where_both first second = first
 
-abbrev pub joined : Reply → Reply → Reply
-joined first second = record { lines = first.lines ++ second.lines; status = yes_where_both first.status second.status }
+abbrev pub is_yes : Status → Bool
+is_yes Yes = true
+is_yes other = false
+
+abbrev pub joined : (Bool → Text) → Reply → Reply → Reply
+joined object first second = record {
+  lines = first.lines ++ second.lines;
+  json = object (is_yes (yes_where_both first.status second.status));
+  status = yes_where_both first.status second.status;
+}
 
 -- the verdict on the prices, and then that on the group and its demand
 abbrev pub both_on : Mode → Instance → List Bool → Prices → GroupAndDemand → Reply
-both_on m e w p claim = joined (price_reply m e w p) (violation_reply e w claim)
+both_on m e w p claim =
+    joined (both_text m e w (verdict_of (First m e w p)) (findings e w p) claim) (price_reply m e w p)
+    (violation_reply e w claim)
 
--- the verdict on a group and its demand below a verdict on prices
-abbrev pub beside : Mode → Verdict → Instance → List Bool → GroupAndDemand → Reply
-beside m verdict e w claim = joined (verdict_reply m e verdict) (violation_reply e w claim)
+-- the verdict on a group and its demand below that which findings on prices tell
+abbrev pub beside : Mode → Findings → Instance → List Bool → GroupAndDemand → Reply
+beside m f e w claim =
+    joined (both_text m e w (verdict_of (first_told m f)) f claim)
+    (verdict_reply m e w (verdict_of (first_told m f)) f) (violation_reply e w claim)
 
 -- The status is yes exactly where the prices support the outcome and the group and its demand are a violation. Each
 -- line promises what it promises alone. What is more, where the stable form is asked for, prices that support the

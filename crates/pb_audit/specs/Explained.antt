@@ -30,9 +30,9 @@ use Rattle.pb_audit.specs.InTurn.{ReadsAudit}
 use Rattle.pb_reply.specs.declared.status.Status.{Status}
 use Rattle.pb_reply.specs.declared.status.Status.TheVariants.{Yes}
 
--- a reply with an empty line and a table below it
+-- a reply with an empty line and a table below its lines; its object has all that the table has
 abbrev pub with_table : List Text → Reply → Reply
-with_table table r = record { lines = r.lines ++ ([] ∷ table); status = r.status }
+with_table table r = record { lines = r.lines ++ ([] ∷ table); json = r.json; status = r.status }
 
 -- what is said of groups, behind an empty line, on a yes alone
 abbrev pub groups_told : Verdict → List Text → List Text
@@ -51,14 +51,14 @@ abbrev pub explained_violation : Instance → List Bool → Measure × List ℕ 
 explained_violation e w v =
     with_table (violation_table v.0 e (violation_findings (worth_by v.0 e) e w v.1 v.2)) (violation_reply e w v)
 
-abbrev pub explained_refutation : Instance → List Bool → Weights → Reply
-explained_refutation e w r =
-    with_table (refutation_table e r (refutation_findings e w r)) (refutation_reply e w r)
+abbrev pub explained_refutation : Bool → Instance → List Bool → Weights → Reply
+explained_refutation stable e w r =
+    with_table (refutation_table e r (refutation_findings stable e w r)) (refutation_reply stable e w r)
 
 abbrev pub explained_reply : Mode → Instance → List Bool → Certificate → Reply
 explained_reply m e w (OfPrices p) = explained_prices m e w p
 explained_reply m e w (OfViolation v) = explained_violation e w v
-explained_reply m e w (OfRefutation r) = explained_refutation e w r
+explained_reply m e w (OfRefutation r) = explained_refutation m.stable e w r
 
 -- What is said of groups is so: after `no more than` the share of every group is within reach, and after `less than` no
 -- group is passed over.
@@ -70,7 +70,7 @@ pub record IsSoOfGroups (status : Status) (e : Instance) (w : List Bool) (said :
 abbrev pub ExplainedPromise : Mode → Status → Instance → List Bool → Certificate → Type 0
 ExplainedPromise m status e w (OfPrices p) = PricesPromise m status e w p × IsSoOfGroups status e w (groups_by m e p)
 ExplainedPromise m status e w (OfViolation v) = ViolationPromises status e w v
-ExplainedPromise m status e w (OfRefutation r) = RefutationPromises status e w r
+ExplainedPromise m status e w (OfRefutation r) = RefutationPromises m.stable status e w r
 
 abbrev pub explained_rules : Mode → AuditRules Certificate
 explained_rules m = record { states = StatesCertificate; reply = explained_reply m; promises = ExplainedPromise m }

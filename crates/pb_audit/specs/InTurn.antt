@@ -46,5 +46,6 @@ ReadsPrices m election outcome certificate r = ReadsAudit (price_rules m) electi
 abbrev pub ReadsViolation : Turn → FileTurn → Turn → Reply → Type 0
 ReadsViolation election outcome certificate r = ReadsAudit violation_rules election outcome certificate r
 
-abbrev pub ReadsRefutation : Turn → FileTurn → Turn → Reply → Type 0
-ReadsRefutation election outcome certificate r = ReadsAudit refutation_rules election outcome certificate r
+abbrev pub ReadsRefutation : Bool → Turn → FileTurn → Turn → Reply → Type 0
+ReadsRefutation stable election outcome certificate r =
+    ReadsAudit (refutation_rules stable) election outcome certificate r

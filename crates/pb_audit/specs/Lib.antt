@@ -7,3 +7,6 @@ pub mod Explained
 pub mod Questions
 pub mod Reports
 pub mod Inside
+pub mod Objects
+pub mod Figured
+pub mod Groups

@@ -1,5 +1,5 @@
 -- What is answered with the table of margins.
-use Rattle.std.specs.Prelude.{◌≡◌, Bool, List, map}
+use Rattle.std.specs.Prelude.{◌≡◌, Bool, List, [], map}
 use Rattle.pb_election.specs.Instance.{Instance}
 use Rattle.pb_certificate.specs.Prices.{Prices}
 use Rattle.pb_explain.specs.MarginTable.{record_line, table_of}
@@ -9,12 +9,13 @@ use Rattle.pb_reply.specs.Inputs.{StatesPrices}
 use Rattle.pb_reply.specs.Turns.{FileTurn, Turn}
 use Rattle.pb_audit.specs.InTurn.{ReadsAudit}
 use Rattle.pb_input.specs.declared.InputName.TheVariants as name
+use Rattle.pb_reply.specs.declared.answer.Format.TheVariants.{Lines}
 use Rattle.pb_reply.specs.declared.status.Status.{Status}
 use Rattle.pb_reply.specs.declared.status.Status.TheVariants.{Yes}
 
--- the table, line by line
+-- the table, line by line, which is for programs as it is, and so has no object
 abbrev pub margins_reply : Instance → List Bool → Prices → Reply
-margins_reply e w p = record { lines = map record_line (table_of e w p); status = Yes }
+margins_reply e w p = record { lines = map record_line (table_of e w p); json = []; status = Yes }
 
 -- the status of a table of margins is yes, whatever the prices support
 abbrev pub AlwaysYes : Status → Instance → List Bool → Prices → Type 0
@@ -27,4 +28,4 @@ margin_rules = record { states = StatesPrices name.Certificate; reply = margins_
 -- table, or of the line of the input that is refused.
 abbrev pub ReadsMargins : Turn → FileTurn → Turn → Answer Status → Type 0
 ReadsMargins election outcome certificate answer =
-    TellsReply (ReadsAudit margin_rules election outcome certificate) answer
+    TellsReply Lines (ReadsAudit margin_rules election outcome certificate) answer

@@ -1,5 +1,7 @@
 -- The report on a folder of elections.
 use Rattle.std.specs.Prelude.{◌≡◌, ◌&&◌, not, nat_lt, if◌then◌else◌, Bool, true, false, List, [], ◌∷◌, ◌++◌, count_by, flat_map, map, take, Option, Some, None, codes, decimal}
+use Rattle.serde_json.specs.Data.{string}
+use Rattle.serde_json.specs.Written.{compact_text}
 use Rattle.pb_records.specs.Loading.{Delivery}
 use Rattle.pb_price.specs.declared.Mode.{Mode}
 use Rattle.pb_records.specs.Records.{Text}
@@ -61,8 +63,27 @@ abbrev pub certificate_lines : Text → Option Reply → List Text
 certificate_lines file None = []
 certificate_lines file (Some r) = file_lines file r
 
-abbrev pub lines_of : Found → List Text
-lines_of found =
+-- the objects of an entry's replies in one object, null where a certificate isn't audited
+abbrev pub object_of : Option Reply → Text
+object_of None = codes "null"
+object_of (Some r) = r.json
+
+abbrev pub entry_of : Text → Text → Text → Text → Text
+entry_of election name prices violation =
+    codes "{\"election\":" ++ election
+    ++ codes ",\"kind\":\"entry\",\"name\":" ++ name
+    ++ codes ",\"prices\":" ++ prices
+    ++ codes ",\"version\":1,\"violation\":" ++ violation
+    ++ codes "}"
+
+abbrev pub entry_object : Found → Text
+entry_object found =
+    entry_of found.read.json (compact_text (string found.name)) (object_of found.prices) (object_of found.violation)
+
+-- the lines on an entry, or its object
+abbrev pub lines_of : Bool → Found → List Text
+lines_of true found = entry_object found ∷ []
+lines_of false found =
     file_lines (found.name ++ codes ".pb") found.read
     ++ certificate_lines (found.name ++ codes ".prices.csv") found.prices
     ++ certificate_lines (found.name ++ codes ".violation.csv") found.violation
@@ -116,8 +137,11 @@ total_of lines = record {
   refused = count_by is_refused lines;
 }
 
-abbrev pub total_line : Total → Text
-total_line t =
+abbrev pub total_line : Bool → Total → Text
+total_line true t =
+    codes "{\"elections\":" ++ decimal t.elections ++ codes ",\"kind\":\"total\",\"no\":" ++ decimal t.no
+    ++ codes ",\"refused\":" ++ decimal t.refused ++ codes ",\"version\":1,\"yes\":" ++ decimal t.yes ++ codes "}"
+total_line false t =
     codes "total " ++ decimal t.elections ++ codes " elections "
     ++ decimal t.yes ++ codes " yes "
     ++ decimal t.no ++ codes " no "
@@ -126,21 +150,23 @@ total_line t =
 abbrev pub status_of : Total → FolderStatus
 status_of t = if nat_lt 0 t.refused then SomeRefused else (if nat_lt 0 t.no then SomeNo else AllYes)
 
--- the report on what is found of each entry: the lines of each, and the line of the total
-abbrev pub report_on : List Found → Answer FolderStatus
-report_on found = record {
-  text = text_of (flat_map lines_of found ++ (total_line (total_of (flat_map endings_of found)) ∷ []));
+-- The report on what is found of each entry: the lines of each, and the line of the total; or, as JSON, an object for
+-- each and one for the total, in a line each.
+abbrev pub report_on : Bool → List Found → Answer FolderStatus
+report_on as_json found = record {
+  text = text_of (flat_map (lines_of as_json) found ++ (total_line as_json (total_of (flat_map endings_of found)) ∷ []));
   status = status_of (total_of (flat_map endings_of found));
 }
 
 -- the report on the entries of a folder
-pub record ReportOf (m : Mode) (entries : List Files) (report : Answer FolderStatus) : Type 0 where
+pub record ReportOf (as_json : Bool) (m : Mode) (entries : List Files) (report : Answer FolderStatus) : Type 0 where
   pub found : List Found
   pub each : FindsEach m entries found
-  pub out : report ≡ report_on found
+  pub out : report ≡ report_on as_json found
 
--- a report that is not finished: its mode, its text so far, and how the lines of that text end
+-- a report that is not finished: how it is written, its mode, its text so far, and how the files of that text end
 pub record Progress : Type 0 where
+  pub as_json : Bool
   pub mode : Mode
   pub text : Text
   pub endings : List Ending
@@ -149,5 +175,5 @@ pub record Progress : Type 0 where
 pub record HasTaken (p : Progress) (entries : List Files) : Type 0 where
   pub found : List Found
   pub each : FindsEach p.mode entries found
-  pub text : p.text ≡ text_of (flat_map lines_of found)
+  pub text : p.text ≡ text_of (flat_map (lines_of p.as_json) found)
   pub endings : p.endings ≡ flat_map endings_of found

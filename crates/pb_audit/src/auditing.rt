@@ -6,14 +6,15 @@ ghost use Rattle.pb_reply.specs.Inside.Loaded.{lent};
 ghost use Rattle.pb_audit.specs.Inside.Certificates.{AnswersCertificate, IfTold, Promised};
 ghost use Rattle.pb_audit.specs.InTurn.{ReadsAudit};
 ghost use Rattle.pb_reply.specs.Replies.{TellsReply};
+ghost use Rattle.pb_reply.specs.declared.answer.Format.TheVariants.{Lines};
 ghost use Rattle.pb_reply.specs.Turns.{file_turn, turn};
 ghost use Rattle.pb_election.specs.Outcome.{OutcomeFits};
 ghost use Rattle.pb_records.specs.Loading.{Delivery};
 
 use pb_election::{Election, Outcome};
 use pb_reply::{
-    Answer, File, Given, Lend, Status, Stop, Telling, outcome_of, push_notes, settled,
-    take_election, take_outcome,
+    Answer, File, Format, Given, Lend, Reply, Status, Stop, Telling, outcome_of, push_notes,
+    settled, take_election, take_outcome,
 };
 use std::alloc::{AllocError, Global};
 
@@ -54,8 +55,25 @@ pub(crate) trait Audit {
     }
 }
 
-/// The answer on an election, an outcome file where one is given, and a certificate, taken in this order. The notes on
-/// the election, each as `read` prints it, are added to `notes`, and behind them those on what is told.
+/// The answer in a format on an election, an outcome file where one is given, and a certificate, taken in this order.
+/// The notes on the election, each as `read` prints it, are added to `notes`, and behind them those on what is told.
+pub(crate) fn answer_as_by<A: Audit<Told = Reply>, E: Given, O: Given, C: Given>(
+    alloc: Global,
+    format: Format,
+    audit: &A,
+    election: &mut E,
+    outcome: &mut Option<O>,
+    certificate: &mut C,
+    notes: &mut Vec<String>,
+) -> Result<Answer<Status>, AllocError>
+    ensures { IfOk result (TellsReply format (ReadsAudit (A.rules audit.now) (turn E.delivers election.old election.new) (file_turn O.delivers outcome.old outcome.new) (turn C.delivers certificate.old certificate.new))) }
+{
+    let work = audit_in_turn(alloc, audit, election, outcome, certificate, notes);
+    let reply = settled(alloc, work)?;
+    reply.answer_as(alloc, format)
+}
+
+/// The same as lines, whatever is told of the replies.
 pub(crate) fn answer_by<A: Audit, E: Given, O: Given, C: Given>(
     alloc: Global,
     audit: &A,
@@ -64,7 +82,7 @@ pub(crate) fn answer_by<A: Audit, E: Given, O: Given, C: Given>(
     certificate: &mut C,
     notes: &mut Vec<String>,
 ) -> Result<Answer<Status>, AllocError>
-    ensures { IfOk result (TellsReply (ReadsAudit (A.rules audit.now) (turn E.delivers election.old election.new) (file_turn O.delivers outcome.old outcome.new) (turn C.delivers certificate.old certificate.new))) }
+    ensures { IfOk result (TellsReply Lines (ReadsAudit (A.rules audit.now) (turn E.delivers election.old election.new) (file_turn O.delivers outcome.old outcome.new) (turn C.delivers certificate.old certificate.new))) }
 {
     let work = audit_in_turn(alloc, audit, election, outcome, certificate, notes);
     let told = settled(alloc, work)?;

@@ -1,33 +1,36 @@
 //! Auditing prices and a violation for one outcome.
-ghost use Rattle.std.specs.Prelude.{◌≡◌, IfOk, IfSome};
+ghost use Rattle.std.specs.Prelude.{◌≡◌, ◌++◌, IfOk, IfSome, string_bytes};
 ghost use Rattle.pb_audit.specs.Both.{ReadsBoth};
 ghost use Rattle.pb_audit.specs.Both as spec;
 ghost use Rattle.pb_reply.specs.Inputs.{StatesViolation};
 ghost use Rattle.pb_reply.specs.Inside.Loaded.{lent};
-ghost use Rattle.pb_reply.specs.Named.{PricesNameProject};
+ghost use Rattle.pb_certificate.specs.Violations.{ClaimFits};
+ghost use Rattle.pb_election.specs.Instance.{IsSet, projects};
 ghost use Rattle.pb_reply.specs.Replies.{TellsReply};
 ghost use Rattle.pb_reply.specs.Turns.{file_turn, turn};
-ghost use Rattle.pb_audit.specs.Inside.Certificates.{AnswersCertificate, JudgesPrices};
+ghost use Rattle.pb_audit.specs.Inside.Certificates.{AnswersCertificate, CanBeTold, FindsPrices};
 ghost use Rattle.pb_reply.specs.Inside.Taking.{Gives, IfTaken, settled};
 ghost use Rattle.pb_election.specs.Outcome.{OutcomeFits};
 
+use crate::objects::both_text;
 use crate::on_groups::push_note;
-use crate::prices::{price_verdict, verdict_reply};
+use crate::prices::{price_findings, verdict_reply};
 use crate::violation::group_reply;
+use pb_certificate::Violation;
 use pb_election::{Election, Outcome};
 use pb_input::InputName;
-use pb_price::{Mode, Verdict};
+use pb_price::{Findings, Mode, Verdict};
 use pb_reply::{
-    Answer, File, Given, Lend, Reply, Status, Stop, Unmet, settled, take_election, take_outcome,
-    violation_of,
+    Answer, File, Format, Given, Lend, Reply, Status, Stop, Unmet, settled, take_election,
+    take_outcome, violation_of,
 };
 use std::alloc::{AllocError, Global};
 
-/// The answer on an election, an outcome file where one is given, a price certificate and a violation certificate, taken
-/// in this order: the line of the verdict on the prices and then that of the verdict on the group, or why an input is
-/// refused. The status is yes where both are a yes. The note on a yes to prices that says little is added to `notes`.
+/// The answer in a format on an election, an outcome file where one is given, a price certificate and a violation
+/// certificate, taken in this order: the verdict on the prices and then that on the group, or why an input is refused. The status is yes where both are a yes. The note on a yes to prices that says little is added to `notes`.
 pub(crate) fn both<E: Given, O: Given, P: Given, V: Given>(
     alloc: Global,
+    format: Format,
     mode: Mode,
     election: &mut E,
     outcome: &mut Option<O>,
@@ -35,11 +38,11 @@ pub(crate) fn both<E: Given, O: Given, P: Given, V: Given>(
     violation: &mut V,
     notes: &mut Vec<String>,
 ) -> Result<Answer<Status>, AllocError>
-    ensures { IfOk result (TellsReply (ReadsBoth mode (turn E.delivers election.old election.new) (file_turn O.delivers outcome.old outcome.new) (turn P.delivers prices.old prices.new) (turn V.delivers violation.old violation.new))) }
+    ensures { IfOk result (TellsReply format (ReadsBoth mode (turn E.delivers election.old election.new) (file_turn O.delivers outcome.old outcome.new) (turn P.delivers prices.old prices.new) (turn V.delivers violation.old violation.new))) }
 {
     let work = both_in_turn(alloc, mode, election, outcome, prices, violation, notes);
     let reply: Reply = settled(alloc, work)?;
-    reply.answer(alloc)
+    reply.answer_as(alloc, format)
 }
 
 /// The reply on the inputs.
@@ -57,9 +60,16 @@ fn both_in_turn<E: Given, O: Given, P: Given, V: Given>(
     let election = take_election(alloc, election)?;
     let outcome = take_outcome(alloc, outcome, &election)?;
     let mut on_prices = Vec::new(alloc);
-    let verdict = take_verdict(alloc, &election, &outcome, prices, mode, &mut on_prices)?;
+    let findings = take_findings(alloc, &election, &outcome, prices, mode, &mut on_prices)?;
     let violation = violation.take(alloc)?;
-    let reply = beside(alloc, &election, &outcome, verdict, violation.lend(), mode);
+    let reply = beside(
+        alloc,
+        &election,
+        &outcome,
+        &findings,
+        violation.lend(),
+        mode,
+    );
     push_where_told(notes, on_prices, &reply)?;
     reply
 }
@@ -78,56 +88,84 @@ fn push_where_told(
     Ok(())
 }
 
-/// The verdict on prices, whose turn has come, with the note on it. What was taken of them is let go.
-fn take_verdict<P: Given>(
+/// What is found of prices, whose turn has come, with the note on a yes in a mode. What was taken of them is let go.
+fn take_findings<P: Given>(
     alloc: Global,
     election: &Election,
     outcome: &Outcome,
     prices: &mut P,
     mode: Mode,
     notes: &mut Vec<String>,
-) -> Result<Verdict, Stop>
+) -> Result<Findings, Stop>
     requires { OutcomeFits outcome.now election.now }
-    ensures verdict { IfTaken result (Gives (JudgesPrices InputName.Prices mode election.now (outcome.now).marks) (turn P.delivers prices.old prices.new)) }
-    ensures projects { IfOk result (PricesNameProject election.now) }
+    ensures taken { IfTaken result (Gives (FindsPrices InputName.Prices election.now (outcome.now).marks) (turn P.delivers prices.old prices.new)) }
+    ensures told { IfOk result (CanBeTold election.now) }
 {
     let taken = prices.take(alloc)?;
-    let verdict = price_verdict(
-        alloc,
-        election,
-        outcome,
-        InputName::Prices,
-        taken.lend(),
-        mode,
-    );
-    if let Ok(Verdict::Supported) = verdict {
-        push_note(alloc, notes, election, taken.lend())?;
-    }
-    verdict
+    let found = price_findings(alloc, election, outcome, InputName::Prices, taken.lend());
+    push_note_on(alloc, notes, election, taken.lend(), &found, mode)?;
+    found
 }
 
-/// The reply on a violation certificate beside a verdict on prices, for an election and an outcome that were accepted.
+/// Adds the note where prices are answered by a yes that says little.
+fn push_note_on(
+    alloc: Global,
+    notes: &mut Vec<String>,
+    election: &Election,
+    prices: File<'_>,
+    found: &Result<Findings, Stop>,
+    mode: Mode,
+) -> Result<(), AllocError> {
+    match found {
+        Ok(findings) if findings.verdict(mode) == Verdict::Supported => {
+            push_note(alloc, notes, election, prices)
+        }
+        _ => Ok(()),
+    }
+}
+
+/// The reply on a violation certificate beside findings on prices, for an election and an outcome that were accepted.
 fn beside(
     alloc: Global,
     election: &Election,
     outcome: &Outcome,
-    verdict: Verdict,
+    findings: &Findings,
     violation: File<'_>,
     mode: Mode,
 ) -> Result<Reply, Stop>
     requires outcome { OutcomeFits outcome.now election.now }
-    requires projects { PricesNameProject election.now verdict }
-    ensures { IfSome (settled (λ r. r) result) (AnswersCertificate (StatesViolation InputName.Violation) (spec.beside mode verdict) election.now (outcome.now).marks (lent violation.entry)) }
+    requires told { CanBeTold election.now findings.now }
+    ensures { IfSome (settled (λ r. r) result) (AnswersCertificate (StatesViolation InputName.Violation) (spec.beside mode findings.now) election.now (outcome.now).marks (lent violation.entry)) }
 {
     let violation = violation_of(alloc, InputName::Violation, violation, election)?;
-    let first = verdict_reply(alloc, election, verdict, mode)?;
-    let second = group_reply(alloc, election, outcome, &violation)?;
-    Ok(joined(first, second)?)
+    Ok(both_reply(alloc, election, outcome, findings, &violation, mode)?)
 }
 
-/// The lines of both, and yes where both are a yes.
-fn joined(first: Reply, second: Reply) -> Result<Reply, AllocError>
-    ensures { IfOk result (λ reply. reply ≡ spec.joined first second) }
+/// The reply on a group and its demand beside findings on prices.
+fn both_reply(
+    alloc: Global,
+    election: &Election,
+    outcome: &Outcome,
+    findings: &Findings,
+    violation: &Violation,
+    mode: Mode,
+) -> Result<Reply, AllocError>
+    requires outcome { OutcomeFits outcome.now election.now }
+    requires told { CanBeTold election.now findings.now }
+    requires violation { ClaimFits violation.now election.now }
+    requires demand { IsSet 1 (projects election.now) (violation.now).demand }
+    ensures { IfOk result (λ reply. reply ≡ spec.beside mode findings.now election.now (outcome.now).marks ((violation.now).measure, (violation.now).group, (violation.now).demand)) }
+{
+    let first = verdict_reply(alloc, election, outcome, findings, mode)?;
+    let second = group_reply(alloc, election, outcome, violation)?;
+    let all = yes_where_both(first.status, second.status) == Status::Yes;
+    let json = both_text(alloc, mode, election, outcome, findings, violation, all)?;
+    joined(first, second, json)
+}
+
+/// The lines of both, with this object, and yes where both are a yes.
+fn joined(first: Reply, second: Reply, json: String) -> Result<Reply, AllocError>
+    ensures { IfOk result (λ reply. reply ≡ record { lines = first.lines ++ second.lines; json = string_bytes json; status = spec.yes_where_both first.status second.status }) }
 {
     let mut lines = first.lines;
     for line in second.lines {
@@ -135,6 +173,7 @@ fn joined(first: Reply, second: Reply) -> Result<Reply, AllocError>
     }
     Ok(Reply {
         lines,
+        json,
         status: yes_where_both(first.status, second.status),
     })
 }

@@ -1,35 +1,34 @@
 //! Explaining verdicts: what each condition on prices, or each test of a violation or of a refutation, comes to.
-ghost use Rattle.std.specs.Prelude.{◌≡◌, ◌≤◌, ◌^◌, IfOk, IfSome, ◌++◌, OnOk, map, string_bytes};
+ghost use Rattle.std.specs.Prelude.{◌≡◌, IfOk, IfSome, ◌++◌, OnOk, map, string_bytes};
 ghost use Rattle.pb_audit.specs.Answers.{verdict_reply};
 ghost use Rattle.pb_audit.specs.Explained.{explained_prices, explained_refutation, explained_rules, explained_violation, groups_told, with_table};
 ghost use Rattle.pb_reply.specs.Certificates.{Certificate};
 ghost use Rattle.pb_reply.specs.Inputs.{StatesPrices, StatesRefutation, StatesViolation};
 ghost use Rattle.pb_reply.specs.Inside.Loaded.{lent};
-ghost use Rattle.pb_reply.specs.Named.{PricesNameProject};
-ghost use Rattle.pb_audit.specs.Inside.Certificates.{AnswersCertificate, FindsPrices};
-ghost use Rattle.pb_reply.specs.Inside.Taking.{IfTaken, settled};
+ghost use Rattle.pb_audit.specs.Inside.Certificates.{AnswersCertificate, CanBeTold};
+ghost use Rattle.pb_reply.specs.Inside.Taking.{settled};
 ghost use Rattle.pb_certificate.specs.Refutations.{WeightsFit};
 ghost use Rattle.pb_certificate.specs.Violations.{ClaimFits};
 ghost use Rattle.pb_election.specs.Instance.{IsSet, projects};
 ghost use Rattle.pb_election.specs.Outcome.{OutcomeFits};
 ghost use Rattle.pb_explain.specs.GroupLines.{group_lines};
-ghost use Rattle.pb_explain.specs.PriceTable.{NameProjects, price_table};
+ghost use Rattle.pb_explain.specs.PriceTable.{price_table};
 ghost use Rattle.pb_price.specs.First.{verdict_of};
 ghost use Rattle.pb_price.specs.OnGroups.{on_groups};
 ghost use Rattle.pb_price.specs.Told.{first_told};
 
 use crate::auditing::Audit;
 use crate::on_groups::push_note_on_yes;
-use crate::prices::verdict_reply;
-use crate::refutation::weights_verdict_reply;
-use crate::violation::group_verdict_reply;
+use crate::prices::{price_findings, verdict_reply};
+use crate::refutation::weights_found_reply;
+use crate::violation::group_found_reply;
 use pb_certificate::{Kind, Refutation, Violation};
 use pb_cohesion::{refutation_findings, violation_findings};
 use pb_election::{Election, Outcome};
 use pb_explain::{push_group_lines, push_price_table, push_refutation_table, push_violation_table};
-use pb_input::{InputFault, InputName};
-use pb_price::{Findings, Mode, Verdict, findings_of};
-use pb_reply::{File, Reply, Stop, bytes_of, kind_in, refutation_of, stop_at, violation_of};
+use pb_input::InputName;
+use pb_price::{Findings, Mode, Verdict};
+use pb_reply::{File, Reply, Stop, kind_in, refutation_of, violation_of};
 use std::alloc::{AllocError, Global};
 
 /// The explanation of a verdict, on prices in a mode.
@@ -56,7 +55,9 @@ impl Audit for ExplainAudit {
         match kind_in(alloc, certificate)? {
             Kind::Prices => prices_on(alloc, election, outcome, certificate, self.mode),
             Kind::Violation => violation_on(alloc, election, outcome, certificate),
-            Kind::Refutation => refutation_on(alloc, election, outcome, certificate),
+            Kind::Refutation => {
+                refutation_on(alloc, election, outcome, certificate, self.mode.stable)
+            }
         }
     }
 
@@ -83,7 +84,8 @@ fn prices_on(
     requires { OutcomeFits outcome.now election.now }
     ensures { IfSome (settled (λ r. r) result) (AnswersCertificate (StatesPrices InputName.Certificate) (explained_prices mode) election.now (outcome.now).marks (lent certificate.entry)) }
 {
-    let findings = price_findings(alloc, election, outcome, certificate)?;
+    let input = InputName::Certificate;
+    let findings = price_findings(alloc, election, outcome, input, certificate)?;
     Ok(findings_reply(alloc, election, outcome, &findings, mode)?)
 }
 
@@ -96,12 +98,10 @@ fn findings_reply(
     mode: Mode,
 ) -> Result<Reply, AllocError>
     requires outcome { OutcomeFits outcome.now election.now }
-    requires unit { 10 ^ 6 ≤ (findings.now).grains_per_unit }
-    requires named { NameProjects election.now findings.now }
-    requires verdict { PricesNameProject election.now (verdict_of (first_told mode findings.now)) }
-    ensures { IfOk result (λ reply. reply ≡ with_table (price_table mode election.now findings.now ++ groups_told (verdict_of (first_told mode findings.now)) (group_lines election.now (outcome.now).marks (on_groups mode.exhaustive (findings.now).budgets (findings.now).limit))) (verdict_reply mode election.now (verdict_of (first_told mode findings.now)))) }
+    requires told { CanBeTold election.now findings.now }
+    ensures { IfOk result (λ reply. reply ≡ with_table (price_table mode election.now findings.now ++ groups_told (verdict_of (first_told mode findings.now)) (group_lines election.now (outcome.now).marks (on_groups mode.exhaustive (findings.now).budgets (findings.now).limit))) (verdict_reply mode election.now (outcome.now).marks (verdict_of (first_told mode findings.now)) findings.now)) }
 {
-    let mut reply = verdict_reply(alloc, election, findings.verdict(mode), mode)?;
+    let mut reply = verdict_reply(alloc, election, outcome, findings, mode)?;
     reply.lines.push(String::new(alloc))?;
     push_price_table(alloc, &mut reply.lines, election, findings, mode)?;
     push_groups_on_yes(alloc, &mut reply.lines, election, outcome, findings, mode)?;
@@ -126,23 +126,6 @@ fn push_groups_on_yes(
             push_group_lines(alloc, lines, election, outcome, findings.on_groups(mode))
         }
         Verdict::Failed(_) => Ok(()),
-    }
-}
-
-/// What each condition comes to by the prices that a certificate states.
-fn price_findings(
-    alloc: Global,
-    election: &Election,
-    outcome: &Outcome,
-    certificate: File<'_>,
-) -> Result<Findings, Stop>
-    requires { OutcomeFits outcome.now election.now }
-    ensures { IfTaken result (FindsPrices election.now (outcome.now).marks (lent certificate.entry)) }
-{
-    let bytes = bytes_of(InputName::Certificate, certificate)?;
-    match findings_of(alloc, election, outcome, bytes) {
-        Ok(findings) => Ok(findings),
-        Err(refusal) => Err(stop_at(InputName::Certificate, InputFault::Certificate(refusal))),
     }
 }
 
@@ -175,7 +158,8 @@ fn tests_reply(
 {
     let measure = violation.satisfaction();
     let findings = violation_findings(election, outcome, violation, &measure);
-    let mut reply = group_verdict_reply(alloc, election, findings.verdict(election))?;
+    let verdict = findings.verdict(election);
+    let mut reply = group_found_reply(alloc, election, outcome, measure, verdict, &findings)?;
     reply.lines.push(String::new(alloc))?;
     push_violation_table(alloc, &mut reply.lines, election, measure, &findings)?;
     Ok(reply)
@@ -187,12 +171,13 @@ fn refutation_on(
     election: &Election,
     outcome: &Outcome,
     certificate: File<'_>,
+    stable: bool,
 ) -> Result<Reply, Stop>
     requires { OutcomeFits outcome.now election.now }
-    ensures { IfSome (settled (λ r. r) result) (AnswersCertificate StatesRefutation explained_refutation election.now (outcome.now).marks (lent certificate.entry)) }
+    ensures { IfSome (settled (λ r. r) result) (AnswersCertificate StatesRefutation (explained_refutation stable) election.now (outcome.now).marks (lent certificate.entry)) }
 {
     let refutation = refutation_of(alloc, certificate, election)?;
-    Ok(weights_tests_reply(alloc, election, outcome, &refutation)?)
+    Ok(weights_tests_reply(alloc, election, outcome, &refutation, stable)?)
 }
 
 /// The verdict on weights, and the table of the tests.
@@ -202,13 +187,15 @@ fn weights_tests_reply(
     election: &Election,
     outcome: &Outcome,
     refutation: &Refutation,
+    stable: bool,
 ) -> Result<Reply, AllocError>
     requires outcome { OutcomeFits outcome.now election.now }
     requires refutation { WeightsFit refutation.now election.now }
-    ensures { IfOk result (λ reply. reply ≡ explained_refutation election.now (outcome.now).marks refutation.now) }
+    ensures { IfOk result (λ reply. reply ≡ explained_refutation stable election.now (outcome.now).marks refutation.now) }
 {
-    let findings = refutation_findings(election, outcome, refutation);
-    let mut reply = weights_verdict_reply(alloc, election, findings.verdict())?;
+    let findings = refutation_findings(election, outcome, refutation, stable);
+    let verdict = findings.verdict();
+    let mut reply = weights_found_reply(alloc, election, outcome, verdict, &findings)?;
     reply.lines.push(String::new(alloc))?;
     push_refutation_table(alloc, &mut reply.lines, election, refutation, &findings)?;
     Ok(reply)

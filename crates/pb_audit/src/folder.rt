@@ -1,5 +1,5 @@
 //! A folder of elections and their certificates.
-ghost use Rattle.std.specs.Prelude.{IfOk, map};
+ghost use Rattle.std.specs.Prelude.{IfOk, false, map};
 ghost use Rattle.pb_audit.specs.Inside.Folders.{files_of};
 ghost use Rattle.pb_audit.specs.Reports.{ReportOf};
 
@@ -29,9 +29,9 @@ pub fn folder_text(
     entries: &[Entry],
     mode: Mode,
 ) -> Result<Answer<FolderStatus>, AllocError>
-    ensures { IfOk result (ReportOf mode (map files_of entries.now)) }
+    ensures { IfOk result (ReportOf false mode (map files_of entries.now)) }
 {
-    let mut report = FolderReport::new(alloc, mode);
+    let mut report = FolderReport::new(alloc, false, mode);
     for entry in entries {
         report = report.add(alloc, entry)?;
     }

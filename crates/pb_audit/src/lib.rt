@@ -6,11 +6,14 @@ mod auditing;
 mod both;
 pub mod endings;
 mod explain;
+mod figured;
 mod folder;
 mod folder_report;
 mod found;
+mod groups;
 pub mod laws;
 mod margins;
+mod objects;
 mod on_groups;
 mod prices;
 mod question;
@@ -26,7 +29,9 @@ pub use folder::{Entry, folder_text};
 pub use folder_report::FolderReport;
 pub use on_groups::{groups_on_yes, notes_on_yes};
 pub use pb_input::{InputFault, InputName, InputRefusal};
-pub use pb_reply::{Answer, Fault, Loaded, Status, Unmet};
+pub use pb_reply::{Answer, Fault, Format, Loaded, Status, Unmet};
 pub use question::Question;
-pub use runs::{run_both, run_prices, run_read, run_tidy, run_violation};
+pub use runs::{
+    run_both, run_groups, run_prices, run_read, run_refutation, run_tidy, run_violation,
+};
 pub use total::FolderStatus;

@@ -3,17 +3,19 @@ ghost use Rattle.std.specs.Prelude.{◌≡◌, IfOk};
 ghost use Rattle.pb_audit.specs.Answers.{price_rules};
 ghost use Rattle.pb_audit.specs.Answers as spec;
 ghost use Rattle.pb_reply.specs.Inside.Loaded.{lent};
-ghost use Rattle.pb_reply.specs.Named.{PricesNameProject};
 ghost use Rattle.pb_reply.specs.Inside.Taking.{IfTaken};
-ghost use Rattle.pb_audit.specs.Inside.Certificates.{JudgesPrices};
+ghost use Rattle.pb_audit.specs.Inside.Certificates.{CanBeTold, FindsPrices};
 ghost use Rattle.pb_certificate.specs.Prices.{Prices};
 ghost use Rattle.pb_election.specs.Outcome.{OutcomeFits};
+ghost use Rattle.pb_price.specs.First.{verdict_of};
+ghost use Rattle.pb_price.specs.Told.{first_told};
 
 use crate::auditing::Audit;
+use crate::objects::price_text;
 use crate::on_groups::push_note_on_yes;
 use pb_election::{Election, Outcome};
 use pb_input::{InputFault, InputName};
-use pb_price::{Mode, Verdict, check_rows};
+use pb_price::{Findings, Mode, findings_of};
 use pb_reply::{File, Reply, Stop, bytes_of, one_line, price_line, price_status, stop_at};
 use std::alloc::{AllocError, Global};
 
@@ -39,8 +41,8 @@ impl Audit for PriceAudit {
         certificate: File<'_>,
     ) -> Result<Reply, Stop> {
         let input = InputName::Certificate;
-        let verdict = price_verdict(alloc, election, outcome, input, certificate, self.mode)?;
-        Ok(verdict_reply(alloc, election, verdict, self.mode)?)
+        let findings = price_findings(alloc, election, outcome, input, certificate)?;
+        Ok(verdict_reply(alloc, election, outcome, &findings, self.mode)?)
     }
 
     fn push_notes_on(
@@ -55,37 +57,39 @@ impl Audit for PriceAudit {
     }
 }
 
-/// The line of a verdict on prices.
+/// The verdict that findings on prices tell, in a mode.
 pub(crate) fn verdict_reply(
     alloc: Global,
     election: &Election,
-    verdict: Verdict,
+    outcome: &Outcome,
+    findings: &Findings,
     mode: Mode,
 ) -> Result<Reply, AllocError>
-    requires { PricesNameProject election.now verdict }
-    ensures { IfOk result (λ reply. reply ≡ spec.verdict_reply mode election.now verdict) }
+    requires outcome { OutcomeFits outcome.now election.now }
+    requires findings { CanBeTold election.now findings.now }
+    ensures { IfOk result (λ reply. reply ≡ spec.verdict_reply mode election.now (outcome.now).marks (verdict_of (first_told mode findings.now)) findings.now) }
 {
+    let verdict = findings.verdict(mode);
     let line = price_line(alloc, election, verdict, mode.stable)?;
-    one_line(alloc, line, price_status(verdict))
+    let json = price_text(alloc, mode, election, outcome, findings)?;
+    one_line(alloc, line, json, price_status(verdict))
 }
 
-/// The verdict on the prices that a certificate states, as the input of this name.
-#[tactic(auto, using(pb_reply::proofs::Culprits::prices_name_projects))]
-pub(crate) fn price_verdict(
+/// What each condition comes to by the prices that a certificate states, as the input of this name.
+pub(crate) fn price_findings(
     alloc: Global,
     election: &Election,
     outcome: &Outcome,
     input: InputName,
     certificate: File<'_>,
-    mode: Mode,
-) -> Result<Verdict, Stop>
+) -> Result<Findings, Stop>
     requires { OutcomeFits outcome.now election.now }
-    ensures verdict { IfTaken result (JudgesPrices input mode election.now (outcome.now).marks (lent certificate.entry)) }
-    ensures projects { IfOk result (PricesNameProject election.now) }
+    ensures taken { IfTaken result (FindsPrices input election.now (outcome.now).marks (lent certificate.entry)) }
+    ensures told { IfOk result (CanBeTold election.now) }
 {
     let bytes = bytes_of(input, certificate)?;
-    match check_rows(alloc, election, outcome, bytes, mode) {
-        Ok(checked) => Ok(checked.verdict),
+    match findings_of(alloc, election, outcome, bytes) {
+        Ok(findings) => Ok(findings),
         Err(refusal) => Err(stop_at(input, InputFault::Certificate(refusal))),
     }
 }

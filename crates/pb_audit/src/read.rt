@@ -7,24 +7,37 @@ ghost use Rattle.pb_reply.specs.Inside.Taking.{settled};
 ghost use Rattle.pb_reply.specs.Replies.{TellsReply};
 ghost use Rattle.pb_reply.specs.Turns.{turn};
 
+use crate::objects::read_text;
 use pb_election::{Election, Outcome};
-use pb_reply::{Answer, Given, Reply, Status, Stop, push_notes, read_line, settled, take_election};
+use pb_reply::{
+    Answer, Format, Given, Reply, Status, Stop, push_notes, read_line, settled, take_election,
+};
 use std::alloc::{AllocError, Global};
 
-/// The answer on an election: the line on it with the notes, or why it is refused.
-pub(crate) fn read<G: Given>(alloc: Global, election: &mut G) -> Result<Answer<Status>, AllocError>
-    ensures { IfOk result (TellsReply (ReadsElection (turn G.delivers election.old election.new))) }
+/// The answer on an election: the line on it with the notes, or why it is refused. The notes are added to `notes` as well.
+pub(crate) fn read<G: Given>(
+    alloc: Global,
+    format: Format,
+    election: &mut G,
+    notes: &mut Vec<String>,
+) -> Result<Answer<Status>, AllocError>
+    ensures { IfOk result (TellsReply format (ReadsElection (turn G.delivers election.old election.new))) }
 {
-    let work = read_in_turn(alloc, election);
+    let work = read_in_turn(alloc, election, notes);
     let reply: Reply = settled(alloc, work)?;
-    reply.answer(alloc)
+    reply.answer_as(alloc, format)
 }
 
 /// The reply on an election.
-fn read_in_turn<G: Given>(alloc: Global, election: &mut G) -> Result<Reply, Stop>
+fn read_in_turn<G: Given>(
+    alloc: Global,
+    election: &mut G,
+    notes: &mut Vec<String>,
+) -> Result<Reply, Stop>
     ensures { IfSome (settled (λ r. r) result) (ReadsElection (turn G.delivers election.old election.new)) }
 {
     let election = take_election(alloc, election)?;
+    push_notes(alloc, notes, &election)?;
     Ok(election_reply(alloc, &election)?)
 }
 
@@ -33,11 +46,13 @@ pub(crate) fn election_reply(alloc: Global, election: &Election) -> Result<Reply
     ensures { IfOk result (λ reply. reply ≡ read_reply (Ok election.now)) }
 {
     let funded = funded_count(alloc, election)?;
+    let json = read_text(alloc, election)?;
     let mut lines = Vec::new(alloc);
     lines.push(read_line(alloc, election, funded)?)?;
     push_notes(alloc, &mut lines, election)?;
     Ok(Reply {
         lines,
+        json,
         status: Status::Yes,
     })
 }

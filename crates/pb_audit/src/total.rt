@@ -1,5 +1,5 @@
 //! The total of a report.
-ghost use Rattle.std.specs.Prelude.{◌≡◌, ◌∷◌, ◌++◌, [], OnOk, count_by, string_bytes};
+ghost use Rattle.std.specs.Prelude.{◌≡◌, ◌∷◌, ◌++◌, [], OnOk, count_by, false, string_bytes, true};
 ghost use Rattle.pb_reply.specs.Replies.{text_of};
 ghost use Rattle.pb_audit.specs.Reports as spec;
 
@@ -86,9 +86,29 @@ impl Total {
         }
     }
 
-    /// Adds the line of the total to a text.
-    pub(crate) fn push_line(self, text: &mut String) -> Result<(), AllocError>
-        ensures { OnOk result (string_bytes text.new ≡ string_bytes text.old ++ text_of (spec.total_line self ∷ [])) }
+    /// Adds the total to a text, as a line or else as an object.
+    pub(crate) fn push(self, as_json: bool, text: &mut String) -> Result<(), AllocError>
+        ensures { OnOk result (string_bytes text.new ≡ string_bytes text.old ++ text_of (spec.total_line as_json self ∷ [])) }
+    {
+        if as_json {
+            self.push_object(text)
+        } else {
+            self.push_line(text)
+        }
+    }
+
+    fn push_object(self, text: &mut String) -> Result<(), AllocError>
+        ensures { OnOk result (string_bytes text.new ≡ string_bytes text.old ++ text_of (spec.total_line true self ∷ [])) }
+    {
+        writeln!(
+            text,
+            "{{\"elections\":{},\"kind\":\"total\",\"no\":{},\"refused\":{},\"version\":1,\"yes\":{}}}",
+            self.elections, self.no, self.refused, self.yes
+        )
+    }
+
+    fn push_line(self, text: &mut String) -> Result<(), AllocError>
+        ensures { OnOk result (string_bytes text.new ≡ string_bytes text.old ++ text_of (spec.total_line false self ∷ [])) }
     {
         writeln!(
             text,

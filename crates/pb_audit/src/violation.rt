@@ -1,16 +1,17 @@
 //! Auditing violations: whether a group was treated worse than it deserves.
-ghost use Rattle.std.specs.Prelude.{◌≡◌, IfOk};
+ghost use Rattle.std.specs.Prelude.{◌≡◌, ◌≤◌, IfOk, IfSome};
 ghost use Rattle.pb_audit.specs.Answers as spec;
 ghost use Rattle.pb_audit.specs.Answers.{violation_reply, violation_rules};
 ghost use Rattle.pb_audit.specs.Both.{GroupAndDemand};
 ghost use Rattle.pb_reply.specs.Named.{ViolationNamesProject};
 ghost use Rattle.pb_certificate.specs.Violations.{ClaimFits};
-ghost use Rattle.pb_election.specs.Instance.{IsSet, projects};
-ghost use Rattle.pb_election.specs.Outcome.{OutcomeFits};
+ghost use Rattle.pb_election.specs.Instance.{IsProject, IsSet, projects};
+ghost use Rattle.pb_election.specs.Outcome.{OutcomeFits, most_total};
 
 use crate::auditing::Audit;
-use pb_certificate::Violation;
-use pb_cohesion::{ViolationVerdict, check_violation};
+use crate::objects::violation_text;
+use pb_certificate::{Measure, Violation};
+use pb_cohesion::{ViolationFindings, ViolationVerdict, violation_findings};
 use pb_election::{Election, Outcome};
 use pb_input::InputName;
 use pb_reply::{File, Reply, Stop, one_line, violation_line, violation_of, violation_status};
@@ -39,8 +40,8 @@ impl Audit for ViolationAudit {
     }
 }
 
-/// The line of the verdict on a group and its demand.
-#[tactic(auto, using(pb_reply::proofs::Culprits::violation_names_projects))]
+/// What is found of a group and its demand, as lines and as an object.
+#[tactic(auto, using(pb_reply::proofs::Culprits::violation_names_projects, crate::proofs::Explained::missing_names_projects))]
 pub(crate) fn group_reply(
     alloc: Global,
     election: &Election,
@@ -52,19 +53,29 @@ pub(crate) fn group_reply(
     requires demand { IsSet 1 (projects election.now) (violation.now).demand }
     ensures { IfOk result (λ reply. reply ≡ violation_reply election.now (outcome.now).marks ((violation.now).measure, (violation.now).group, (violation.now).demand)) }
 {
-    let verdict = check_violation(election, outcome, violation, &violation.satisfaction());
-    group_verdict_reply(alloc, election, verdict)
+    let measure = violation.satisfaction();
+    let findings = violation_findings(election, outcome, violation, &measure);
+    let verdict = findings.verdict(election);
+    group_found_reply(alloc, election, outcome, measure, verdict, &findings)
 }
 
-/// The line of a verdict on a group and its demand.
-pub(crate) fn group_verdict_reply(
+/// The verdict that findings on a group and its demand tell.
+#[tactic(auto, using(crate::proofs::Explained::group_verdict_named))]
+pub(crate) fn group_found_reply(
     alloc: Global,
     election: &Election,
+    outcome: &Outcome,
+    measure: Measure,
     verdict: ViolationVerdict,
+    findings: &ViolationFindings,
 ) -> Result<Reply, AllocError>
-    requires { ViolationNamesProject election.now verdict }
-    ensures { IfOk result (λ reply. reply ≡ spec.group_reply election.now verdict) }
+    requires outcome { OutcomeFits outcome.now election.now }
+    requires cost { (findings.now).cost ≤ most_total }
+    requires project { IfSome (findings.now).unapproved.first (λ q. IsProject election.now q.1) }
+    requires verdict { ViolationNamesProject election.now verdict }
+    ensures { IfOk result (λ reply. reply ≡ spec.group_reply measure election.now (outcome.now).marks verdict findings.now) }
 {
     let line = violation_line(alloc, election, verdict)?;
-    one_line(alloc, line, violation_status(verdict))
+    let json = violation_text(alloc, measure, election, outcome, verdict, findings)?;
+    one_line(alloc, line, json, violation_status(verdict))
 }

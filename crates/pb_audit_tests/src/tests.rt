@@ -3,4 +3,5 @@
 mod commands;
 mod failing;
 mod folders;
+mod groups;
 mod in_turn;

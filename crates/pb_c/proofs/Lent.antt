@@ -3,6 +3,7 @@ use Rattle.std.proofs.Common.{◌≡◌, ◌∙◌, Option, ap, refl}
 use Rattle.std.specs.Prelude.{Some, None}
 use Rattle.std.specs.Option.{option_map}
 use Rattle.pb_records.specs.Loading.{Delivery}
+use Rattle.pb_certificate.specs.declared.violations.measure.Measure.{Measure}
 use Rattle.pb_price.specs.declared.Mode.{Mode}
 use Rattle.pb_reply.specs.Inside.Loaded.{lent}
 use Rattle.pb_reply.specs.Replies.{Answer}
@@ -10,6 +11,7 @@ use Rattle.pb_reply.specs.Turns.{FileTurn, Turn, file_turn, gives, gives_file, l
 use Rattle.pb_reply.specs.declared.loaded.File.{File}
 use Rattle.pb_reply.specs.declared.status.Status.{Status}
 use Rattle.pb_words.specs.declared.language.Language.{Language}
+use Rattle.pb_page.specs.Groups.{ReadsGroupsPage}
 use Rattle.pb_page.specs.InTurn.{ReadsPage}
 use Rattle.pb_audit.proofs.Weaker.{Implies, after-weaker, in-turn-weaker}
 
@@ -44,4 +46,15 @@ page-weaker m l e f o p c d elections outcomes certificates answer a = record {
   certificate_delivered =
       after-weaker a.answers.e a.answers.o _ _ _ _ (certificates (Some a.of_certificate)) (certificates None)
       a.certificate_delivered;
+}
+
+pub groups-page-weaker : (m : Measure) (l : Language) (e f : Turn) (o p : FileTurn) → Implies e f → Implies o p
+    → (a : Answer Status) → ReadsGroupsPage m l e o a → ReadsGroupsPage m l f p a
+groups-page-weaker m l e f o p elections outcomes answer a = record {
+  of_election = a.of_election;
+  of_outcome = a.of_outcome;
+  answers = a.answers;
+  election_delivered = elections _ a.election_delivered;
+  outcome_delivered =
+      in-turn-weaker a.answers.e _ _ _ _ (outcomes (Some a.of_outcome)) (outcomes None) a.outcome_delivered;
 }

@@ -61,12 +61,14 @@ condition_of (unmet.Prices f) = of_prices f
 condition_of (unmet.Both f g) = of_prices f
 condition_of (unmet.Violation g) = nothing_fails
 condition_of (unmet.Refutation g) = nothing_fails
+condition_of (unmet.Groups c k) = nothing_fails
 
 abbrev pub test_of : Unmet → Culprit
 test_of (unmet.Prices f) = nothing_fails
 test_of (unmet.Both f g) = of_violation g
 test_of (unmet.Violation g) = of_violation g
 test_of (unmet.Refutation g) = of_refutation g
+test_of (unmet.Groups c k) = culprit 31 0 c
 
 abbrev pub facts_of : Status → Facts
 facts_of Yes = record { input = 0; fault = 0; place = 0; condition = nothing_fails; test = nothing_fails }

@@ -2,4 +2,5 @@ pub mod Commands
 pub mod Facts
 pub mod Files
 pub mod Reports
+pub mod Whole
 pub mod Groups

@@ -10,8 +10,8 @@ use pb_price::Failure;
 #[repr(C)]
 #[derive(Clone, Copy)]
 pub struct Culprit {
-    /// Its number: 1 Feasible, 2 Exhaustive, 3 Cover, 4 to 8 C1 to C5, 9 S5; 11 to 14 V1 to V4; 21 to 23 U1 to U3; 0
-    /// where none fails.
+    /// Its number: 1 Feasible, 2 Exhaustive, 3 Cover, 4 to 8 C1 to C5, 9 S5; 11 to 14 V1 to V4; 21 to 23 U1 to U3; 31
+    /// that no group falls short; 0 where none fails.
     pub number: u32,
     /// The voter at which it does, from 1, or 0.
     pub voter: u32,
@@ -32,7 +32,8 @@ pub struct Facts {
     pub place: u64,
     /// The first condition on prices that fails.
     pub condition: Culprit,
-    /// The first test of a violation, or of a refutation, that fails.
+    /// The first test of a violation, or of a refutation, that fails; or that no group falls short, with the project for
+    /// which one does.
     pub test: Culprit,
 }
 
@@ -89,7 +90,7 @@ fn condition_of(unmet: Unmet) -> Culprit
 {
     match unmet {
         Unmet::Prices(failure) | Unmet::Both(failure, _) => of_prices(failure),
-        Unmet::Violation(_) | Unmet::Refutation(_) => NONE,
+        Unmet::Violation(_) | Unmet::Refutation(_) | Unmet::Groups { .. } => NONE,
     }
 }
 
@@ -100,6 +101,7 @@ fn test_of(unmet: Unmet) -> Culprit
         Unmet::Prices(_) => NONE,
         Unmet::Violation(failure) | Unmet::Both(_, failure) => of_violation(failure),
         Unmet::Refutation(failure) => of_refutation(failure),
+        Unmet::Groups { project, .. } => failing(31, 0, project),
     }
 }
 

@@ -7,9 +7,9 @@ use pb_audit::{Answer, Status};
 use pb_hints::{Remark, hint};
 use std::alloc::{AllocError, Global};
 
-/// The hint on a refused file, as an answer that is always a yes: a sentence a line, each behind the line of the file on
-/// which it is, where that isn't the one at which the refused record begins. That one is given as `line`, or 0 where
-/// there is none. Where no fault or no kind of file has the number, the text is empty.
+/// The hint on a refused file, as an answer that is always a yes: a sentence a line, each but the first behind the line of
+/// the file on which it is, where it is on one. That of the first, on which the refused record begins, is given as `line`,
+/// or 0 where there is none. Where no fault or no kind of file has the number, the text is empty.
 pub(crate) fn hint_answer(
     alloc: Global,
     input: u8,
@@ -25,8 +25,11 @@ pub(crate) fn hint_answer(
     let mut text = String::new(alloc);
     if let (Some(kind), Some(fault)) = (kind_of(input), fault_of(number, place)) {
         let remarks = hint(alloc, kind, fault, Some(file), election)?;
-        *line = line_of(&remarks);
-        push_remarks(&mut text, &remarks, *line)?;
+        *line = line_of(&remarks).unwrap_or(0);
+        for sentence in &sentences_of(alloc, &remarks)? {
+            text.push_str(sentence)?;
+            text.push('\n')?;
+        }
     }
     Ok(Answer {
         text: text.into_bytes(),
@@ -34,27 +37,22 @@ pub(crate) fn hint_answer(
     })
 }
 
-/// The line of the first remark, or 0 where it is on none.
-fn line_of(remarks: &[Remark]) -> u64 {
-    match remarks.first() {
-        Some(
-            Remark {
-                line: Some(line),
-                ..
-            },
-        ) => *line,
-        _ => 0,
-    }
+/// The line of the first remark, where it is on one.
+pub(crate) fn line_of(remarks: &[Remark]) -> Option<u64> {
+    remarks.first()?.line
 }
 
-fn push_remarks(text: &mut String, remarks: &[Remark], refused: u64) -> Result<(), AllocError> {
+/// The sentences of remarks, each but the first behind the line of the file on which it is, where it is on one.
+pub(crate) fn sentences_of(alloc: Global, remarks: &[Remark]) -> Result<Vec<String>, AllocError> {
+    let mut sentences = Vec::new(alloc);
     for remark in remarks {
+        let mut text = String::new(alloc);
         match remark.line {
-            Some(line) if line != refused => write!(text, "line {line}: ")?,
+            Some(line) if !sentences.is_empty() => write!(text, "line {line}: ")?,
             _ => {}
         }
         text.push_str(&remark.sentence)?;
-        text.push('\n')?;
+        sentences.push(text)?;
     }
-    Ok(())
+    Ok(sentences)
 }

@@ -6,12 +6,16 @@
 
 ghost use Rattle.std.specs.Prelude.{◌≡◌, ◌≤◌, IfNone, IfSome, option_map};
 ghost use Rattle.pb_audit.specs.Questions.{Answers};
-ghost use Rattle.pb_c.specs.Commands.{question_of};
+ghost use Rattle.pb_c.specs.Commands.{measure_of, question_of};
 ghost use Rattle.pb_c.specs.Files.{given_file, given_mode};
+ghost use Rattle.pb_c.specs.Facts.{no_facts};
 ghost use Rattle.pb_c.specs.Reports.{IsNothing, Reports, ReportsFacts};
+ghost use Rattle.pb_c.specs.Whole.{IsWhole};
+ghost use Rattle.pb_page.specs.Groups.{ReadsGroupsPage};
 ghost use Rattle.pb_page.specs.InTurn.{ReadsPage};
 ghost use Rattle.pb_reply.specs.Inputs.{in_memory};
 ghost use Rattle.pb_reply.specs.Turns.{gives, gives_file};
+ghost use Rattle.pb_reply.specs.declared.answer.Format.TheVariants.{Json, JsonAndLines, Lines};
 ghost use Rattle.pb_reply.specs.declared.status.Status.TheVariants.{Yes};
 ghost use Rattle.pb_words.specs.Languages.{language_of};
 
@@ -22,24 +26,29 @@ mod groups;
 mod hints;
 mod notes;
 mod report;
+mod whole;
 
-use answers::{answer_on, given_bytes, page_on, question_of};
+use answers::{answer_on, given_bytes, groups_page_on, page_on, question_of};
+use facts::NO_FACTS;
 pub use facts::{Culprit, Facts};
 use groups::groups_on;
 use hints::hint_answer;
 use notes::note_answer;
+use pb_audit::Format;
 use pb_page::{Language, PageNames};
 use pb_price::Mode;
 use report::{report, report_facts, report_nothing};
 use std::alloc::Global;
+use whole::report_on;
 
 /// Answers a question: 0 where the answer is yes, or what was asked for is given, 1 where it is no, 2 where a file is
 /// refused, 3 where there is no such question, and then nothing is written and `needed` is 0, and 4 where memory ran out.
 /// The question is a number: 0 what an election has, 1 prices, 2 a violation, 3 a refutation, 4 prices and a violation, 5
-/// the explanation of a certificate of any kind, 6 the margins of prices, 7 the canonical text of prices. The outcome is
-/// that of the outcome file where `has_outcome`, and else the election's own. `violation` is looked at for 4 alone, and
-/// the certificate for all but 0. The text goes to the front of `out` if it fits, and its length in bytes to `needed`;
-/// where memory ran out, that is 0. What is told in numbers goes to `facts`.
+/// the explanation of a certificate of any kind, 6 the margins of prices, 7 the canonical text of prices, 8 whether a
+/// group falls short by cost, 10 that with the figures of one group, 12 the margins of groups, and 9, 11 and 13 the same by
+/// counting. The outcome is that of the outcome file where `has_outcome`, and else the election's own. `violation` is
+/// looked at for 4 alone, and the certificate for 1 to 7. The text goes to the front of `out` if it fits, and its length
+/// in bytes to `needed`; where memory ran out, that is 0. What is told in numbers goes to `facts`.
 #[unsafe(no_mangle)]
 pub extern "C" fn pbaudit_answer(
     alloc: Global,
@@ -56,7 +65,7 @@ pub extern "C" fn pbaudit_answer(
     out: &mut [u8],
     needed: &mut usize,
 ) -> u8
-    ensures answer { IfSome (question_of question (given_mode stable exhaustive cover)) (λ q. ReportsFacts (Answers q (gives (in_memory election.now)) (gives_file (option_map in_memory (given_file has_outcome outcome.now))) (gives (in_memory certificate.now)) (gives (in_memory violation.now))) result facts.new out.old out.new needed.new) }
+    ensures answer { IfSome (question_of question (given_mode stable exhaustive cover)) (λ q. ReportsFacts (Answers Lines q (gives (in_memory election.now)) (gives_file (option_map in_memory (given_file has_outcome outcome.now))) (gives (in_memory certificate.now)) (gives (in_memory violation.now))) result facts.new out.old out.new needed.new) }
     ensures no_question { IfNone (question_of question (given_mode stable exhaustive cover)) (IsNothing result facts.new out.old out.new needed.new) }
 {
     let mode = Mode {
@@ -69,6 +78,7 @@ pub extern "C" fn pbaudit_answer(
     };
     let answer = answer_on(
         alloc,
+        Format::Lines,
         question,
         election,
         outcome,
@@ -79,13 +89,103 @@ pub extern "C" fn pbaudit_answer(
     report_facts(&answer, facts, out, needed)
 }
 
+/// Answers a question as one JSON object, in a line: 0 to 4 as `pbaudit_answer` does, whose questions and files these are.
+/// Margins and the canonical text of prices are no object, but as `pbaudit_answer` gives them; so is what is told of a
+/// file that is refused there. `docs/JSON.md` describes the objects. The text and its length are given as by
+/// `pbaudit_answer`.
+#[unsafe(no_mangle)]
+pub extern "C" fn pbaudit_json(
+    alloc: Global,
+    question: u8,
+    election: &[u8],
+    outcome: &[u8],
+    has_outcome: bool,
+    certificate: &[u8],
+    violation: &[u8],
+    stable: bool,
+    exhaustive: bool,
+    cover: bool,
+    out: &mut [u8],
+    needed: &mut usize,
+) -> u8
+    ensures answer { IfSome (question_of question (given_mode stable exhaustive cover)) (λ q. Reports (Answers Json q (gives (in_memory election.now)) (gives_file (option_map in_memory (given_file has_outcome outcome.now))) (gives (in_memory certificate.now)) (gives (in_memory violation.now))) result out.old out.new needed.new) }
+    ensures no_question { IfNone (question_of question (given_mode stable exhaustive cover)) (IsNothing result no_facts out.old out.new needed.new) }
+{
+    let mode = Mode {
+        stable,
+        exhaustive,
+        cover,
+    };
+    let mut untold = NO_FACTS;
+    let Some(asked) = question_of(question, mode) else {
+        return report_nothing(&mut untold, needed);
+    };
+    let object = answer_on(
+        alloc,
+        Format::Json,
+        asked,
+        election,
+        outcome,
+        has_outcome,
+        certificate,
+        violation,
+    );
+    report(&object, out, needed)
+}
+
+/// Reports all that is to be told of the answer to a question, whose files are read once: 0 to 4 as `pbaudit_answer` does,
+/// whose questions and files these are. The text has three parts. First a line, a JSON object of what stands beside the
+/// answer: `notes`, a list of texts; `refusal`, the object of the refusal where a file is refused, and null otherwise; and
+/// `hint`, what a person is told of that, with the `line` of the file on which the refused record begins, from 1, or null,
+/// and `sentences`. Behind it the text of `pbaudit_json`, one line, where the answer is an object: margins and the
+/// canonical text of prices are none. And behind that the text of `pbaudit_answer`. Notes and hints are for people; that
+/// they are the right ones is tested and not proved. The text and its length are given as by `pbaudit_answer`.
+#[unsafe(no_mangle)]
+pub extern "C" fn pbaudit_report(
+    alloc: Global,
+    question: u8,
+    election: &[u8],
+    outcome: &[u8],
+    has_outcome: bool,
+    certificate: &[u8],
+    violation: &[u8],
+    stable: bool,
+    exhaustive: bool,
+    cover: bool,
+    out: &mut [u8],
+    needed: &mut usize,
+) -> u8
+    ensures answer { IfSome (question_of question (given_mode stable exhaustive cover)) (λ q. Reports (IsWhole (Answers JsonAndLines q (gives (in_memory election.now)) (gives_file (option_map in_memory (given_file has_outcome outcome.now))) (gives (in_memory certificate.now)) (gives (in_memory violation.now)))) result out.old out.new needed.new) }
+    ensures no_question { IfNone (question_of question (given_mode stable exhaustive cover)) (IsNothing result no_facts out.old out.new needed.new) }
+{
+    let mode = Mode {
+        stable,
+        exhaustive,
+        cover,
+    };
+    let mut untold = NO_FACTS;
+    let Some(asked) = question_of(question, mode) else {
+        return report_nothing(&mut untold, needed);
+    };
+    let whole = report_on(
+        alloc,
+        asked,
+        election,
+        outcome,
+        has_outcome,
+        certificate,
+        violation,
+    );
+    report(&whole, out, needed)
+}
+
 /// Makes the page about a certificate of any kind, as HTML: 0 where the prices support the outcome, the group and its
 /// demand are a violation, or the weights refute, 1 where it isn't so, 2 where a file is refused, and then the text is the
 /// line of the refusal, 3 where there is no such language, and then nothing is written and `needed` is 0, and 4 where
 /// memory ran out. The page shows the files by these names, which needn't be UTF-8. The language is a code, as `en`. A
-/// certificate whose first record is the head of a violation certificate or of a refutation is taken as one, and then
-/// `stable`, `exhaustive` and `cover` count for nothing; any other is taken as prices. The rest is as for
-/// `pbaudit_answer`.
+/// certificate whose first record is the head of a violation certificate or of a refutation is taken as one; any other is
+/// taken as prices. For a violation `stable`, `exhaustive` and `cover` count for nothing, and for a refutation `stable`
+/// alone counts. The rest is as for `pbaudit_answer`.
 #[unsafe(no_mangle)]
 pub extern "C" fn pbaudit_answer_page(
     alloc: Global,
@@ -128,6 +228,45 @@ pub extern "C" fn pbaudit_answer_page(
         has_outcome,
         certificate,
         mode,
+        language,
+    );
+    report_facts(&answer, facts, out, needed)
+}
+
+/// Makes the page about groups that fall short, by counting where `by_count` and else by cost, as HTML: 0 where none does,
+/// 1 where one does, and 2, 3 and 4 as for `pbaudit_answer_page`. No certificate is taken. The rest is as there.
+#[unsafe(no_mangle)]
+pub extern "C" fn pbaudit_groups_page(
+    alloc: Global,
+    election: &[u8],
+    election_name: &[u8],
+    outcome: &[u8],
+    outcome_name: &[u8],
+    has_outcome: bool,
+    by_count: bool,
+    language: &[u8],
+    facts: &mut Facts,
+    out: &mut [u8],
+    needed: &mut usize,
+) -> u8
+    ensures page { IfSome (language_of language.now) (λ l. ReportsFacts (ReadsGroupsPage (measure_of by_count) l (gives (in_memory election.now)) (gives_file (option_map in_memory (given_file has_outcome outcome.now)))) result facts.new out.old out.new needed.new) }
+    ensures no_language { IfNone (language_of language.now) (IsNothing result facts.new out.old out.new needed.new) }
+{
+    let Some(language) = Language::of_code(language) else {
+        return report_nothing(facts, needed);
+    };
+    let names = PageNames {
+        election: election_name,
+        outcome: outcome_name,
+        certificate: &[],
+    };
+    let answer = groups_page_on(
+        alloc,
+        names,
+        election,
+        outcome,
+        has_outcome,
+        by_count,
         language,
     );
     report_facts(&answer, facts, out, needed)

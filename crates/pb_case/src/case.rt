@@ -30,7 +30,8 @@ pub struct Case<'a> {
 pub struct Files {
     pub election: InputFile,
     pub outcome: Option<InputFile>,
-    pub certificate: InputFile,
+    /// Where the page is about one.
+    pub certificate: Option<InputFile>,
 }
 
 /// A file that was audited.

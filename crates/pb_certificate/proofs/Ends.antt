@@ -1,20 +1,14 @@
 -- How the reading of a file ends.
-use Rattle.std.proofs.Common.{◌≡◌, ◌∙◌, suc, List, length, refl, sym, inl, inr, None}
+use Rattle.std.proofs.Common.{◌≡◌, List, refl, inl, inr}
 use Rattle.std.specs.Prelude.{◌⊎◌}
 use Rattle.pb_records.specs.Records.{Rec}
-use Rattle.pb_records.specs.Cells.{nonblank}
 use Rattle.pb_records.specs.Inside.Drafts.{StopsFirst}
-use Rattle.pb_records.specs.FirstFault.{Form, IsFirstFault, NoFault}
+use Rattle.pb_records.specs.FirstFault.{Form, IsFirstFault}
 use Rattle.pb_records.specs.declared.drafts.FaultAt.{FaultAt}
 use Rattle.pb_records.specs.declared.drafts.Stop.{Stop}
 use Rattle.pb_records.specs.declared.drafts.Stop.TheVariants.{Fault, Memory}
-use Rattle.pb_records.proofs.FirstOrNone.{fault-last}
 use Rattle.pb_certificate.specs.Faults.{no_memory, refusal_where_stopped}
 use Rattle.pb_certificate.specs.declared.refusal.CertFault.{CertFault}
-
--- where no fault stands anywhere, none stands at the end
-pub none-at-end : {F : Type 0} (form : Form F) (recs : List Rec) → NoFault form recs → form (nonblank recs) None ≡ None
-none-at-end form recs none = sym (fault-last form recs) ∙ none (suc (length recs))
 
 -- a reading that stopped refuses the file
 pub stop-refuses : (form : Form CertFault) (recs : List Rec) (stop : Stop (FaultAt CertFault))

@@ -1,6 +1,7 @@
 -- The head records of a file, by their cells.
-use Rattle.std.proofs.Common.{◌≡◌, ◌∙◌, ℕ, Bool, true, List, [], ◌∷◌, length, refl, sym, ap, arith, Some}
-use Rattle.std.specs.Prelude.{◌==◌, ◌&&◌, Ok, Err, is_none, slice_index_or}
+use Rattle.std.proofs.Common.{◌≡◌, ◌∙◌, ℕ, Bool, true, false, cond, List, [], ◌∷◌, length, refl, sym, ap, arith, Some}
+use Rattle.std.specs.Prelude.{◌==◌, ◌&&◌, Result, Ok, Err, slice_index_or}
+use Rattle.std.specs.Result.{result_map_both}
 use Rattle.std.specs.Str.{bytes_eq}
 use Rattle.std.proofs.lemmas.Bool.{and_parts, eqb-true}
 use Rattle.std.proofs.lemmas.Slice.Eq.{bytes_eq-Decides}
@@ -8,10 +9,9 @@ use Rattle.std.proofs.Math.Bool.{and-false}
 use Rattle.pb_records.specs.Records.{Field, Rec}
 use Rattle.pb_records.specs.Cells.{cell}
 use Rattle.pb_certificate.specs.Fields.{StatesNumber, fields, head_number, same_fields, whole_within}
-use Rattle.pb_certificate.specs.Faults.{is_value_of}
 use Rattle.pb_certificate.specs.declared.refusal.CertFault.{CertFault}
-use Rattle.pb_certificate.proofs.Cells.{field-cell}
-use Rattle.pb_certificate.proofs.OnPrices.RowFaults.{number_fault}
+use Rattle.pb_certificate.specs.declared.refusal.CertFault.TheVariants as fault
+use Rattle.pb_certificate.proofs.Cells.{cell-is, field-cell}
 
 two-plain : (x y : Bool) → (x && (y && true)) ≡ ((true && x) && y)
 two-plain x y = grind arith
@@ -56,6 +56,16 @@ same-is (f ∷ fs) (g ∷ gs) h =
     let rest : fs ≡ gs = same-is fs gs parts.1 in
     cc
 
+-- what a head record gives that has to have these fields
+pub fields-were : {H : Type 0} (r : Rec) (fs : List Field) (h next : H)
+    → cond (same_fields (fields r) fs) (Ok h) (Err fault.BadHead) ≡ Ok next → (fields r ≡ fs) × (h ≡ next)
+fields-were {H} r fs h next is = by (same_fields (fields r) fs) refl is
+  where
+    by : (b : Bool) → same_fields (fields r) fs ≡ b → cond b (Ok h) (Err fault.BadHead) ≡ Ok next
+        → (fields r ≡ fs) × (h ≡ next)
+    by true same e = (same-is (fields r) fs same, cc e)
+    by false same e = cc e
+
 -- a record of two fields, by its cells
 pub pair-is : (r : Rec) → (length (fields r) == 2) ≡ true → fields r ≡ cell 0 r ∷ cell 1 r ∷ []
 pair-is r two = by (fields r) refl (eqb-true (length (fields r)) 2 two)
@@ -83,15 +93,39 @@ triple-is r three = by (fields r) refl (eqb-true (length (fields r)) 3 three)
         rw (first, second, third) refl
     by (x ∷ y ∷ z ∷ w ∷ ws) is e = absurd (omega arith)
 
--- the number of a head record
-pub number-taken : (name : Field) (least most n : ℕ) (r : Rec) → Ok n ≡ head_number name least most r
-    → (is_value_of name r ≡ true) × (whole_within least most (cell 1 r) ≡ Some n)
+-- what the number of a head record is, and whose number it is
+number-taken : (name : Field) (least most n : ℕ) (r : Rec) → Ok n ≡ head_number name least most r
+    → (((length (fields r) == 2) && bytes_eq (cell 0 r) name) ≡ true)
+    × (whole_within least most (cell 1 r) ≡ Some n)
 number-taken name least most n r h = grind arith
 
-pub number-refused : (name : Field) (least most : ℕ) (r : Rec) (f : CertFault) → Err f ≡ head_number name least most r
-    → number_fault (is_value_of name r) (is_none (whole_within least most (cell 1 r))) ≡ Some f
-number-refused name least most r f h = grind arith
-
-pub states-number : (name : Field) (least most n : ℕ) (r : Rec) → is_value_of name r ≡ true
+states-number : (name : Field) (least most n : ℕ) (r : Rec)
+    → ((length (fields r) == 2) && bytes_eq (cell 0 r) name) ≡ true
     → whole_within least most (cell 1 r) ≡ Some n → StatesNumber name least most r n
 states-number name least most n r is value = grind (arith, and_parts, bytes_eq-Decides, pair-is)
+
+number-states : (name : Field) (least most n : ℕ) (r : Rec) → Ok n ≡ head_number name least most r
+    → StatesNumber name least most r n
+number-states name least most n r h =
+    let taken = number-taken name least most n r h in states-number name least most n r taken.0 taken.1
+
+pub number-was : {H : Type 0} (name : Field) (least most : ℕ) (with : ℕ → H) (r : Rec) (next : H)
+    → result_map_both with (λ f. f) (head_number name least most r) ≡ Ok next
+    → (n : ℕ) × StatesNumber name least most r n × (with n ≡ next)
+number-was {H} name least most with r next is = by (head_number name least most r) refl is
+  where
+    by : (x : Result ℕ CertFault) → head_number name least most r ≡ x → result_map_both with (λ f. f) x ≡ Ok next
+        → (n : ℕ) × StatesNumber name least most r n × (with n ≡ next)
+    by (Ok n) number e = (n, number-states name least most n r (sym number), cc e)
+    by (Err f) number e = cc e
+
+pub head-number-is : (name : Field) (least most n : ℕ) (r : Rec) → StatesNumber name least most r n
+    → head_number name least most r ≡ Ok n
+head-number-is name least most n r h =
+    rw (
+      ap length h.1,
+      cell-is r (name ∷ h.0 ∷ []) 0 h.1,
+      cell-is r (name ∷ h.0 ∷ []) 1 h.1,
+      (bytes_eq-Decides name name).1 refl,
+      h.2,
+    ) refl

@@ -1,11 +1,8 @@
 pub mod Cells
-pub mod Ids
 pub mod Numbers
 pub mod OnPrices
 pub mod Widths
 pub mod Unique
-pub mod NoFaults
-pub mod HeadRecords
 pub mod OnViolations
 pub mod OnRefutations
 pub mod NamedRows

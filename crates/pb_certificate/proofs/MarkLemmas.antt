@@ -1,14 +1,13 @@
 -- The marks of the numbers that some names have.
-use Rattle.std.proofs.Common.{◌≡◌, ◌≢◌, ◌≤◌, ◌<◌, ◌+◌, ◌-◌, ◌∙◌, ℕ, zero, suc, Bool, true, false, List, [], ◌∷◌, ◌++◌, length, refl, sym, ap, arith, Option, Some, get_or, add-one, append-nil}
-use Rattle.std.specs.Prelude.{Ok, filter, map, replicate}
-use Rattle.std.specs.List.{AllByRecursion, IsDistinct, range_with_len}
+use Rattle.std.proofs.Common.{◌≡◌, ◌≢◌, ◌≤◌, ◌<◌, ◌+◌, ◌-◌, ◌∙◌, ℕ, zero, suc, Bool, true, false, List, [], ◌∷◌, ◌++◌, length, refl, sym, ap, arith, get_or, add-one, append-nil}
+use Rattle.std.specs.Prelude.{filter, map, replicate}
+use Rattle.std.specs.List.{range_with_len}
 use Rattle.std.proofs.Math.ListN.{set}
 use Rattle.std.proofs.lemmas.List.Elements.{filter-append}
 use Rattle.std.proofs.lemmas.List.FromFn.{get_or-map-range_with_len, length-map-range_with_len}
 use Rattle.pb_records.proofs.Lists.{range-push, filter-same}
 use Rattle.pb_election.specs.Instance.{IsSet}
-use Rattle.pb_certificate.specs.Inside.Marks.{is_marked, marked, marks_after, marks_of, with_mark}
-use Rattle.pb_certificate.specs.declared.refusal.CertFault.{CertFault}
+use Rattle.pb_certificate.specs.Inside.Marks.{is_marked, marked, marks_of, with_mark}
 use Rattle.pb_certificate.proofs.Unique.{filter-set}
 
 -- no mark is set
@@ -43,23 +42,6 @@ one-more-mark f g n j low high here other = grind (arith, set-range)
 
 pub same-marks : (f g : ℕ → Bool) (n : ℕ) → ((i : ℕ) → g i ≡ f i) → marks_of f n ≡ marks_of g n
 same-marks f g n h = grind arith
-
--- what was marked
-pub was-marked : (unknown : CertFault) (place : Option ℕ) (old new : List Bool) → marks_after unknown place old ≡ Ok new
-    → (j : ℕ) × (place ≡ Some j) × (is_marked old j ≡ false) × (new ≡ with_mark old j)
-was-marked unknown place old new h = grind arith
-
--- names that differ from one more
-pub distinct-push : {A : Type 0} (eq : A → A → Bool) (xs : List A) (x : A) → IsDistinct eq xs
-    → AllByRecursion (λ y. eq y x ≡ false) xs → IsDistinct eq (xs ++ (x ∷ []))
-unfolding IsDistinct
-distinct-push eq [] x h k = (tt, tt)
-distinct-push {A} eq (y ∷ ys) x h k = (apart ys h.0 k.0, distinct-push eq ys x h.1 k.1)
-  where
-    apart : (zs : List A) → AllByRecursion (λ z. eq y z ≡ false) zs → eq y x ≡ false
-        → AllByRecursion (λ z. eq y z ≡ false) (zs ++ (x ∷ []))
-    apart [] l e = (e, tt)
-    apart (z ∷ zs) l e = (l.0, apart zs l.1 e)
 
 -- the numbers that are marked are those that pass the test
 

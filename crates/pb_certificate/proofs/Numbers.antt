@@ -85,3 +85,7 @@ pub voter-was : (o : Option ℕ) (f : Field) (e : Instance) (number : Option ℕ
     → Ok o ≡ cond (is_some number) (Ok (voter_in e f)) (Err fault.BadNumber) → o ≡ voter_in e f
 voter-was o f e (Some n) h = cc
 voter-was o f e None h = cc
+
+-- a number within bounds is what the text states
+pub whole-is : (least most : ℕ) (f : Field) (n : ℕ) → whole_within least most f ≡ Some n → whole_in f ≡ Some n
+whole-is least most f n h = grind arith

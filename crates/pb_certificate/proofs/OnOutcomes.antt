@@ -1,4 +1,4 @@
 -- Lemmas on outcome files.
-pub mod Steps
+pub mod Texts
 pub mod Clear
 pub mod Answered

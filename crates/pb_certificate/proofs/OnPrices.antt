@@ -2,9 +2,8 @@
 pub mod Payments
 pub mod Searches
 pub mod Texts
-pub mod RowFaults
 pub mod RowSteps
-pub mod RowPlaces
+pub mod Stated
 pub mod Admitting
 pub mod Rows
 pub mod PlaceSteps

@@ -1,6 +1,6 @@
 -- Lemmas on refutations.
 pub mod Rows
-pub mod Steps
+pub mod Heads
 pub mod Clear
 pub mod Answered
 pub mod Texts

@@ -1,5 +1,4 @@
 -- Lemmas on violation certificates.
-pub mod Heads
-pub mod Steps
+pub mod Texts
 pub mod Clear
 pub mod Answered

@@ -1,5 +1,5 @@
 -- What the fields of a record say: numbers, voters and projects.
-use Rattle.std.specs.Prelude.{◌≡◌, ◌==◌, ◌&&◌, nat_le, if◌then◌else◌, Bool, true, false, ℕ, List, [], ◌∷◌, length, map, Option, Some, None, Result, Err, unwrap_or, option_and_then}
+use Rattle.std.specs.Prelude.{◌≡◌, ◌==◌, ◌&&◌, nat_le, if◌then◌else◌, Bool, true, false, ℕ, List, [], ◌∷◌, length, map, Option, Some, None, Result, Err, option_and_then}
 use Rattle.std.specs.Str.{bytes_eq}
 use Rattle.std.specs.Option.{ok_or}
 use Rattle.pb_money.specs.Digits.{are_digits, is_empty, number_of}
@@ -36,10 +36,6 @@ whole_in f = if are_digits f then Some (number_of f) else None
 -- the whole number that a text states, in this range
 abbrev pub whole_within : ℕ → ℕ → Field → Option ℕ
 whole_within least most f = option_and_then (only_if (λ n. nat_le least n && nat_le n most)) (whole_in f)
-
--- the number that a text states, and 0 where it states none
-abbrev pub number : Field → ℕ
-number f = unwrap_or (whole_in f) 0
 
 -- the voter that a field names by its number, and the project that one names by its id
 abbrev pub voter_in : Instance → Field → Option ℕ

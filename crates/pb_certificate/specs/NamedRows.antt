@@ -1,10 +1,14 @@
 -- The rows of violation certificates and outcome files: each names a voter or a project.
-use Rattle.std.specs.Prelude.{◌≡◌, ◌==◌, if◌then◌else◌, Bool, true, false, ℕ, List, [], ◌∷◌, map, Option, Some, None, option_map, codes}
+use Rattle.std.specs.Prelude.{◌≡◌, ◌==◌, if◌then◌else◌, Bool, true, false, ℕ, List, [], ◌∷◌, map, Option, Some, None, Result, Err, is_some, option_map, codes}
+use Rattle.std.specs.Option.{ok_or}
 use Rattle.std.specs.List.{IsDistinct, list_any}
 use Rattle.std.specs.Str.{bytes_eq}
 use Rattle.pb_election.specs.Instance.{Instance}
 use Rattle.pb_records.specs.Records.{Field, Rec}
-use Rattle.pb_certificate.specs.Fields.{fields, project_in, voter_in}
+use Rattle.pb_records.specs.Cells.{cell}
+use Rattle.pb_certificate.specs.Fields.{fields, project_in, voter_in, whole_in}
+use Rattle.pb_certificate.specs.declared.refusal.CertFault.{CertFault}
+use Rattle.pb_certificate.specs.declared.refusal.CertFault.TheVariants as fault
 
 -- what a row names
 pub data Named : Type 0 where
@@ -45,3 +49,15 @@ was_named names x = list_any (same_named x) names
 pub record RowsName (e : Instance) (rows : List Rec) (names : List Named) : Type 0 where
   pub each_row : map (named_of e) rows ≡ map Some names
   pub once : IsDistinct same_named names
+
+-- the word that a row begins with
+abbrev pub is_kind : Field → Rec → Bool
+is_kind kind r = bytes_eq (cell 0 r) kind
+
+-- what a field names, or its fault
+abbrev pub voter_named : Instance → Field → Result Named CertFault
+voter_named e f = if is_some (whole_in f) then ok_or (option_map Voter (voter_in e f)) fault.UnknownVoter
+    else Err fault.BadNumber
+
+abbrev pub project_named : Instance → Field → Result Named CertFault
+project_named e f = ok_or (option_map Project (project_in e f)) fault.UnknownProject

@@ -2,6 +2,7 @@
 -- voter pays for each project. The form of price certificates is this project's own.
 pub mod Text
 pub mod RowFaults
+pub mod Kind
 pub mod Rows
 pub mod Canon
 use Rattle.std.specs.Prelude.{◌≡◌, ◌<◌, ◌≤◌, ◌-◌, ◌^◌, ◌==◌, if◌then◌else◌, ℕ, List, [], ◌∷◌, length, map, sum_by, slice_index_or, All}

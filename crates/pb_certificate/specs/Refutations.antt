@@ -2,6 +2,7 @@
 -- such weights exist exactly where no prices do, and a solver that looks for prices has them at its end. The form of
 -- the certificates is this project's own.
 pub mod Text
+pub mod Kind
 use Rattle.std.specs.Prelude.{◌≡◌, ◌≤◌, ◌-◌, ◌^◌, ℕ, All, IfSome, List, Option, None, length, slice_index_or}
 use Rattle.std.specs.Option.{option_map_or}
 use Rattle.pb_election.specs.Instance.{Instance, projects}

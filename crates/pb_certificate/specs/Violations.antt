@@ -2,6 +2,7 @@
 -- (2021) define it: a group of voters, the projects that it demands, and by what both are measured.
 -- The certificate's form is this project's own.
 pub mod Text
+pub mod Kind
 use Rattle.std.specs.Prelude.{◌≡◌, ℕ, List}
 use Rattle.pb_election.specs.Instance.{Instance, IsSet, projects, voters}
 use Rattle.pb_certificate.specs.declared.violations.measure.Measure.{Measure}

@@ -1,5 +1,6 @@
 //! Marks: which of the numbers from 1 on the rows of a file have named.
 ghost use Rattle.std.specs.Prelude.{◌≡◌, ◌≤◌, ◌<◌, ◌^◌, not, IfOk, IsTrue, length};
+ghost use Rattle.pb_records.specs.Inside.Headed.{EndsAs};
 ghost use Rattle.pb_certificate.specs.Inside.Marks as spec;
 
 use crate::CertFault;
@@ -24,7 +25,7 @@ fn mark(marks: &mut [bool], number: u32) -> bool
 /// Marks the project that has this id. A project that has its mark already is `Repeated`.
 #[tactic(auto, unfolding(crate::specs::Inside::Marks::marks_after))]
 pub fn mark_project(marks: &mut [bool], id: &str, election: &Election) -> Result<(), CertFault>
-    ensures { spec.EndsAs (spec.project_after election.now id.now marks.old) result marks.new }
+    ensures { EndsAs (spec.project_after election.now id.now marks.old) result marks.new }
 {
     let Some(project) = election.find(id) else {
         return Err(CertFault::UnknownProject);
@@ -38,7 +39,7 @@ pub fn mark_project(marks: &mut [bool], id: &str, election: &Election) -> Result
 /// Marks the voter that a field names by its number. A voter that has its mark already is `Repeated`.
 #[tactic(auto, unfolding(crate::specs::Inside::Marks::marks_after))]
 pub fn mark_voter(marks: &mut [bool], number: &str, election: &Election) -> Result<(), CertFault>
-    ensures { spec.EndsAs (spec.voter_after election.now number.now marks.old) result marks.new }
+    ensures { EndsAs (spec.voter_after election.now number.now marks.old) result marks.new }
 {
     let Some(voter) = voter_in(number, election)? else {
         return Err(CertFault::UnknownVoter);

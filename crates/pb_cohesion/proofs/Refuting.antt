@@ -109,14 +109,14 @@ role-counts Most k z u x most =
     let more : z ≤ u + k = omega arith in let all : z * x ≤ (u + k) * x = mul-le-mul_right x more in omega arith
 role-counts Left k z u x most = let all : z * x ≤ u * x = mul-le-mul_right x most in omega arith
 
-row-counts : (row : Option Weighting) (z u x : ℕ) → counted_in row z ≤ u
+pub row-counts : (row : Option Weighting) (z u x : ℕ) → counted_in row z ≤ u
     → z * x + where_passes (option_map_or (λ y. is_least y.role) row false) (option_map_or (λ y. y.weight) row 0 * x)
     ≤ u * x + where_passes (option_map_or (λ y. is_most y.role) row false) (option_map_or (λ y. y.weight) row 0 * x)
 row-counts None z u x most = let all : z * x ≤ u * x = mul-le-mul_right x most in omega arith
 row-counts (Some y) z u x most = role-counts y.role y.weight z u x most
 
 -- a payment of nothing counts nothing
-none-counts : (b d : Bool) (z u k x : ℕ) → x ≡ 0 → z * x + where_passes b (k * x) ≤ u * x + where_passes d (k * x)
+pub none-counts : (b d : Bool) (z u k x : ℕ) → x ≡ 0 → z * x + where_passes b (k * x) ≤ u * x + where_passes d (k * x)
 none-counts b d z u k x none = rw none (omega (arith, where-zero b k, where-zero d k))
   where
     where-zero : (q : Bool) (n : ℕ) → where_passes q (n * 0) ≡ 0
@@ -179,7 +179,7 @@ voter-counts e w p r i approved within none_wasted v =
     )
 
 -- what is paid for funded projects, each by its weight, is what they cost so
-weighted-paid : (e : Instance) (w : List Bool) (p : Prices) (r : Weights) (q : ℕ → Bool) → C3 e w p
+pub weighted-paid : (e : Instance) (w : List Bool) (p : Prices) (r : Weights) (q : ℕ → Bool) → C3 e w p
     → sum_by (λ i. sum_by (λ c. weight r c * pays p i c) (filter q (funded e w))) (all_voters e)
     ≡ p.denominator * weighted_cost e r (filter q (funded e w))
 weighted-paid e w p r q paid_for =
@@ -192,28 +192,29 @@ weighted-paid e w p r q paid_for =
     term : (c : ℕ) → IsFunded e w c → weight r c * paid e p c ≡ p.denominator * (weight r c * cost_of e c)
     term c funded_is = let exact : paid e p c ≡ cost e p c = paid_for c funded_is in rw exact (omega arith)
 
--- what the supporters of unfunded projects have left, each project by its weight, is at most what they cost so
-weighted-left : (e : Instance) (w : List Bool) (p : Prices) (r : Weights) → C2 e p → C5 e w p ⊎ S5 e w p
-    → sum_by (λ i. left_ℕ e p i * taken_left e w r i) (all_voters e) ≤ p.denominator * left_cost e w r
-weighted-left e w p r within form =
-    let each : sum_by (λ c. weight r c * sum_by (left_ℕ e p) (supporters e c)) (unfunded e w)
+-- What the supporters of unfunded projects have, each project by its weight: at most what they cost so, where it is at
+-- most the cost for each project.
+pub weighted-within : (e : Instance) (w : List Bool) (p : Prices) (r : Weights) (f : ℕ → ℕ)
+    → ((c : ℕ) → IsUnfunded e w c → sum_by f (supporters e c) ≤ cost e p c)
+    → sum_by (λ i. f i * taken_left e w r i) (all_voters e) ≤ p.denominator * left_cost e w r
+weighted-within e w p r f within =
+    let each : sum_by (λ c. weight r c * sum_by f (supporters e c)) (unfunded e w)
     ≤ sum_by (λ c. p.denominator * (weight r c * cost_of e c)) (unfunded e w) =
     sum-le _ _ (unfunded e w)
     (all-weaker (IsUnfunded e w)
-    (λ c. weight r c * sum_by (left_ℕ e p) (supporters e c) ≤ p.denominator * (weight r c * cost_of e c)) (unfunded e w)
+    (λ c. weight r c * sum_by f (supporters e c) ≤ p.denominator * (weight r c * cost_of e c)) (unfunded e w)
     term (recursion_from_All (IsUnfunded e w) (unfunded e w) (unfunded-all e w))) in
     omega (
       arith,
-      supporters-exchange e w (weight r) (left_ℕ e p),
+      supporters-exchange e w (weight r) f,
       sum-mul p.denominator (λ c. weight r c * cost_of e c) (unfunded e w),
     )
   where
     term : (c : ℕ) → IsUnfunded e w c
-        → weight r c * sum_by (left_ℕ e p) (supporters e c) ≤ p.denominator * (weight r c * cost_of e c)
+        → weight r c * sum_by f (supporters e c) ≤ p.denominator * (weight r c * cost_of e c)
     term c unfunded_is =
-        let left : sum_by (left_ℕ e p) (supporters e c) ≤ cost e p c = supporters-left e w p c within form unfunded_is in
-        let all : weight r c * sum_by (left_ℕ e p) (supporters e c) ≤ weight r c * cost e p c =
-        mul-le-mul_left (weight r c) left in
+        let all : weight r c * sum_by f (supporters e c) ≤ weight r c * cost e p c =
+        mul-le-mul_left (weight r c) (within c unfunded_is) in
         omega arith
 
 -- What the weights take of all prices in either form: so many times all budgets for Cover, and what the projects of role
@@ -249,7 +250,7 @@ weights-take e w p r refutes (low, approved, within, paid_for, none_wasted, form
     sum-same (λ i. most_counted e w r i * beta p) (λ i. beta p * most_counted e w r i) (all_voters e)
     (all-every _ (all_voters e) (λ i. mul_comm (most_counted e w r i) (beta p)))
     ∙ sum-mul (beta p) (most_counted e w r) (all_voters e) in
-    omega (arith, weighted-left e w p r within form)
+    omega (arith, weighted-within e w p r (left_ℕ e p) (λ c. supporters-left e w p c within form))
   where
     least : ℕ → ℕ
     least i = sum_by (λ c. weight r c * pays p i c) (filter (has_role is_least r) (funded e w))
@@ -263,30 +264,41 @@ weights-take e w p r refutes (low, approved, within, paid_for, none_wasted, form
         let whole : beta p ≡ (beta p - spent e p i) + spent e p i = omega arith in
         ap (λ b. b * k) whole ∙ omega arith
 
+-- What weights take, so many times all budgets for Cover, contradicts what the costs say.
+abbrev pub Takes : Instance → List Bool → Weights → Prices → Type 0
+Takes e w r p =
+    beta p * (voters e * r.cover) + p.denominator * least_cost e w r ≤ p.denominator * at_most e w r
+
+abbrev pub CostsDiffer : Instance → List Bool → Weights → Type 0
+CostsDiffer e w r = (at_most e w r < at_least e w r) ⊎ ((at_most e w r ≡ at_least e w r) × (0 < r.cover))
+
+pub contradicts : (e : Instance) (w : List Bool) (r : Weights) (p : Prices) → 1 ≤ p.denominator → Takes e w r p
+    → CostsDiffer e w r → r.cover ≡ 0 → ⊥
+contradicts e w r p low taken costs none =
+    let grains : p.denominator * least_cost e w r ≤ p.denominator * at_most e w r = omega arith in
+    let less : least_cost e w r ≤ at_most e w r = le_of_mul-le-mul_left grains low in
+    let limit : r.cover * e.limit ≡ 0 = ap (λ k. k * e.limit) none ∙ omega arith in
+    elim costs [ inl more ↦ absurd (omega arith) | inr same ↦ absurd (omega (arith, none, same.1)) ]
+
+pub contradicts_cover : (e : Instance) (w : List Bool) (r : Weights) (p : Prices) → Takes e w r p → CostsDiffer e w r
+    → 0 < r.cover → Cover e p → ⊥
+contradicts_cover e w r p taken costs some cover =
+    let limit : r.cover * (e.limit * p.denominator) < r.cover * (voters e * beta p) =
+    mul-lt-mul_of_pos_left cover some in
+    let grains : p.denominator * at_least e w r < p.denominator * at_most e w r = omega arith in
+    let less : at_least e w r < at_most e w r = lt_of_mul-lt-mul_left p.denominator grains in
+    elim costs [ inl more ↦ absurd (omega arith) | inr same ↦ absurd (omega (arith, same.0)) ]
+
 -- no prices in either form where Cover has no weight
 pub none_support : (e : Instance) (w : List Bool) (r : Weights) → Refutes e w r → r.cover ≡ 0 → NoPricesSupport e w
 none_support e w r refutes none p supports =
-    let taken : beta p * (voters e * r.cover) + p.denominator * least_cost e w r ≤ p.denominator * at_most e w r =
-    weights-take e w p r refutes supports in
-    let grains : p.denominator * least_cost e w r ≤ p.denominator * at_most e w r = omega arith in
-    let less : least_cost e w r ≤ at_most e w r = le_of_mul-le-mul_left grains supports.0 in
-    let limit : r.cover * e.limit ≡ 0 = ap (λ k. k * e.limit) none ∙ omega arith in
-    elim refutes.costs [
-      | inl more ↦ absurd (omega arith)
-      | inr same ↦ absurd (omega (arith, none, same.1))
-    ]
+    contradicts e w r p supports.0 (weights-take e w p r refutes supports) refutes.costs none
 
 -- and none whose budgets exceed the limit where it has one
 pub none_with_cover_support : (e : Instance) (w : List Bool) (r : Weights) → Refutes e w r → 0 < r.cover
     → NoPricesWithCoverSupport e w
 none_with_cover_support e w r refutes some p supports cover =
-    let taken : beta p * (voters e * r.cover) + p.denominator * least_cost e w r ≤ p.denominator * at_most e w r =
-    weights-take e w p r refutes supports in
-    let limit : r.cover * (e.limit * p.denominator) < r.cover * (voters e * beta p) =
-    mul-lt-mul_of_pos_left cover some in
-    let grains : p.denominator * at_least e w r < p.denominator * at_most e w r = omega arith in
-    let less : at_least e w r < at_most e w r = lt_of_mul-lt-mul_left p.denominator grains in
-    elim refutes.costs [ inl more ↦ absurd (omega arith) | inr same ↦ absurd (omega (arith, same.0)) ]
+    contradicts_cover e w r p (weights-take e w p r refutes supports) refutes.costs some cover
 
 -- so where prices support the outcome, weights refute it only with a weight of Cover, and where Cover holds not at all
 pub nothing_refutes : (e : Instance) (w : List Bool) (p : Prices) (cover : Bool) → Supports e w p

@@ -9,4 +9,9 @@ pub mod FirstU
 pub mod ViolationFindings
 pub mod RefutationFindings
 pub mod Satisfactions
+pub mod Short
+pub mod Closest
+pub mod Shown
+pub mod Inside
+pub mod Larger
 pub mod Samples

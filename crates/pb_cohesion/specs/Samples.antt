@@ -33,6 +33,14 @@ x_y = codes "x" ∷ codes "y" ∷ []
 abbrev pub wanting_y : ℕ → Instance
 wanting_y cost = election 10 x_y (2 ∷ cost ∷ []) x_outcome ((1 ∷ 2 ∷ []) ∷ (1 ∷ 2 ∷ []) ∷ [])
 
+-- two voters pay 4 for x together, want both, and y costs this
+abbrev pub sharing_x : ℕ → Instance
+sharing_x cost = election 10 x_y (4 ∷ cost ∷ []) x_outcome ((1 ∷ 2 ∷ []) ∷ (1 ∷ 2 ∷ []) ∷ [])
+
+-- that at least the cost of x is paid, and at most that of y offered, each so many times, and Cover with this weight
+abbrev pub paid_and_offered : ℕ → ℕ → ℕ → Weights
+paid_and_offered cover paid offered = weights cover (row Least paid ∷ row Left offered ∷ [])
+
 -- three voters want both, another one x, and one nothing
 abbrev pub passed_over : Instance
 passed_over =

@@ -1,20 +1,26 @@
 //! Laws on groups of voters, whatever the election, the outcome and the prices are.
 
 ghost use Rattle.std.specs.Prelude.{◌≡◌, ◌<◌, ◌≤◌, ◌⊎◌, ◌↔◌, ◌≤ℤ◌, [], ℕ, pos, Bool, true, Contains, List, filter, sum_by, None};
-ghost use Rattle.pb_election.specs.Instance.{Instance, all_projects, all_voters};
+ghost use Rattle.pb_election.specs.Instance.{Instance, IsProject, all_projects, all_voters, cost_of};
 ghost use Rattle.pb_election.specs.Outcome.{OutcomeFits, funds};
 ghost use Rattle.pb_election.specs.Text.{IsElection};
 ghost use Rattle.pb_certificate.specs.Prices.{Prices};
 ghost use Rattle.pb_certificate.specs.Refutations.{Weights};
+ghost use Rattle.pb_certificate.specs.declared.violations.measure.Measure.{Measure};
+ghost use Rattle.pb_certificate.specs.declared.violations.measure.Measure.TheVariants.{ByCount, ByCost};
 ghost use Rattle.pb_cohesion.specs.Amounts.{paid, spent};
+ghost use Rattle.pb_cohesion.specs.Closest.{AreAllFigures};
+ghost use Rattle.pb_cohesion.specs.declared.GroupFigures.{GroupFigures};
 ghost use Rattle.pb_cohesion.specs.Conditions.{C1, C2, C3, C4, C5, Cover, Exhaustive, S5, culprits_of_C1, culprits_of_C2, culprits_of_C3, culprits_of_C4, culprits_of_C5, culprits_of_Exhaustive, culprits_of_S5, most_of};
 ghost use Rattle.pb_cohesion.specs.EveryGroup.{BudgetsAreTheLimit, BudgetsAreWithinReach, BudgetsReachTheLimit, DemandsAreWithinReach, GroupsGetTheirShare, NoDemandIsPassedOver, NoGroupHasMoreLeft, NoGroupIsPassedOver, NoViolationByCounting, NothingBlocks, SharesAreWithinReach, SupportersBlock, SupportersHaveMoreLeft};
-ghost use Rattle.pb_cohesion.specs.FirstU.{FirstU};
+ghost use Rattle.pb_cohesion.specs.FirstU.{FirstStableU, FirstU};
 ghost use Rattle.pb_cohesion.specs.FirstV.{FirstV};
 ghost use Rattle.pb_cohesion.specs.Groups.{Offer, Violates};
+ghost use Rattle.pb_cohesion.specs.Larger.{FundsNoLess, with_limit};
 ghost use Rattle.pb_cohesion.specs.Outcome.{total};
 ghost use Rattle.pb_cohesion.specs.RefutationFindings.{TellWhichRefutationTestsHold, refutation_findings};
-ghost use Rattle.pb_cohesion.specs.Refutations.{NoPricesSupport, NoPricesWithCoverSupport, NothingRefutes, Refutes, Supports};
+ghost use Rattle.pb_cohesion.specs.Refutations.{NoPricesSupport, NoPricesWithCoverSupport, NothingRefutes, Refutes, Supports, IsLeast, NoStablePricesSupport, NoStablePricesWithCoverSupport, NothingRefutesStable, OffersMakeUp, RefutesStable, SupportsStable, most_counted, stable_counted};
+ghost use Rattle.pb_cohesion.specs.Short.{IsLargestShort, SatisfiesEjrPlus, FallsShort};
 ghost use Rattle.pb_cohesion.specs.ViolationFindings.{TellWhichTestsHold, violation_findings};
 
 /// The total of an outcome is what its funded projects cost, where the instance is an election or the outcome fits it.
@@ -70,10 +76,12 @@ pub fn shares_within_reach()
 {}
 
 /// So it is also where the budgets of all voters together are the limit, and no unfunded project can be added within it:
-/// under C1 to C4 no group is passed over, and under S5 none is a violation by counting.
+/// under C1 to C4 no group is passed over, and under S5 none is a violation by counting, and none falls short by
+/// counting.
 pub fn exhaustive_is_as_good_as_cover_at_the_limit()
     ensures shares { (e : Instance) (w : List Bool) (p : Prices) → 1 ≤ p.denominator → C1 e p → C2 e p → C3 e w p → C4 e w p → Exhaustive e w → BudgetsAreTheLimit e p → NoGroupIsPassedOver e w }
     ensures counting { (e : Instance) (w : List Bool) (p : Prices) → 1 ≤ p.denominator → C1 e p → C2 e p → C3 e w p → C4 e w p → S5 e w p → Exhaustive e w → BudgetsAreTheLimit e p → NoViolationByCounting e w }
+    ensures ejr_plus { (e : Instance) (w : List Bool) (p : Prices) → 1 ≤ p.denominator → C1 e p → C2 e p → C3 e w p → C4 e w p → S5 e w p → Exhaustive e w → BudgetsAreTheLimit e p → SatisfiesEjrPlus ByCount e w }
 {}
 
 /// So no demand is passed over: what a cohesive group demands costs at most what any unfunded project of it costs and
@@ -94,6 +102,34 @@ pub fn stable_prices_are_fair()
 /// counting. Of violations by cost nothing is said.
 pub fn stable_prices_exclude_violations()
     ensures { (e : Instance) (w : List Bool) (p : Prices) → C1 e p → C3 e w p → C4 e w p → S5 e w p → Cover e p → NoViolationByCounting e w }
+{}
+
+/// Stable prices satisfy EJR+ up to any project by counting: under C1, C4, S5 and Cover no group falls short by
+/// counting. By cost one can.
+pub fn stable_prices_satisfy_ejr_plus()
+    ensures { (e : Instance) (w : List Bool) (p : Prices) → C1 e p → C4 e w p → S5 e w p → Cover e p → SatisfiesEjrPlus ByCount e w }
+{}
+
+/// Where no group falls short by cost, none is passed over: EJR+ up to any project is at least as much as PJR+ up to any
+/// project.
+pub fn ejr_plus_passes_nobody_over()
+    ensures { (e : Instance) (w : List Bool) → SatisfiesEjrPlus ByCost e w → NoGroupIsPassedOver e w }
+{}
+
+/// Where no group falls short, none does when more projects are funded, nor when the limit is lower, by either measure.
+pub fn ejr_plus_stays()
+    ensures more_funded { (m : Measure) (e : Instance) (v w : List Bool) → SatisfiesEjrPlus m e w → FundsNoLess e v w → SatisfiesEjrPlus m e v }
+    ensures lower_limit { (m : Measure) (e : Instance) (w : List Bool) (limit : ℕ) → SatisfiesEjrPlus m e w → limit ≤ e.limit → SatisfiesEjrPlus m (with_limit e limit) w }
+{}
+
+/// Where all projects cost the same, a group falls short by cost exactly where it does by counting.
+pub fn measures_agree_at_equal_costs()
+    ensures { (e : Instance) (w : List Bool) (cost : ℕ) (s : List ℕ) (c : ℕ) → ((j : ℕ) → IsProject e j → cost_of e j ≡ cost) → (FallsShort ByCost e w s c ↔ FallsShort ByCount e w s c) }
+{}
+
+/// There is at most one largest group that falls short for a project.
+pub fn largest_group_is_one()
+    ensures { (m : Measure) (e : Instance) (w : List Bool) (s t : List ℕ) (c : ℕ) → IsLargestShort m e w s c → IsLargestShort m e w t c → s ≡ t }
 {}
 
 /// Each condition but Feasible and Cover, which name no culprit, holds exactly where it has none.
@@ -128,14 +164,39 @@ pub fn refutations_exclude_prices()
     ensures supported { (e : Instance) (w : List Bool) (p : Prices) (cover : Bool) → Supports e w p → (cover ≡ true → Cover e p) → NothingRefutes cover e w }
 {}
 
-/// Weights refute all prices for an outcome, those under Cover where that has a weight, exactly where no test fails.
+/// Weights that refute stable prices exclude those alone, in the same way.
+pub fn refutations_exclude_stable_prices()
+    ensures all { (e : Instance) (w : List Bool) (r : Weights) → RefutesStable e w r → r.cover ≡ 0 → NoStablePricesSupport e w }
+    ensures covered { (e : Instance) (w : List Bool) (r : Weights) → RefutesStable e w r → 0 < r.cover → NoStablePricesWithCoverSupport e w }
+    ensures supported { (e : Instance) (w : List Bool) (p : Prices) (cover : Bool) → SupportsStable e w p → (cover ≡ true → Cover e p) → NothingRefutesStable cover e w }
+    // Weights that refute all prices refute the stable ones.
+    ensures plain { (e : Instance) (w : List Bool) (r : Weights) → Refutes e w r → RefutesStable e w r }
+{}
+
+/// How often a voter's budget counts where prices are stable is the least number at which offers make up for what
+/// payments count above it, and no more than the most that a payment counts.
+pub fn stable_counts_are_least()
+    ensures least { (e : Instance) (w : List Bool) (r : Weights) (i : ℕ) → IsLeast (OffersMakeUp e w r i) (stable_counted e w r i) }
+    ensures at_most { (e : Instance) (w : List Bool) (r : Weights) (i : ℕ) → stable_counted e w r i ≤ most_counted e w r i }
+{}
+
+/// Weights refute all prices for an outcome, those under Cover where that has a weight, exactly where no test fails. So
+/// it is with stable prices and the tests for those.
 pub fn refutation_where_no_test_fails()
-    ensures { (e : Instance) (w : List Bool) (r : Weights) → (FirstU e w r ≡ None) ↔ Refutes e w r }
+    ensures all { (e : Instance) (w : List Bool) (r : Weights) → (FirstU e w r ≡ None) ↔ Refutes e w r }
+    ensures stable { (e : Instance) (w : List Bool) (r : Weights) → (FirstStableU e w r ≡ None) ↔ RefutesStable e w r }
 {}
 
 /// The findings on a refutation tell which tests hold: U1 where there is no culprit, U2 where budgets are counted no
 /// more often than they are taken, and U3 where more is paid at least than is paid and left at most, or as much and Cover
 /// has a weight.
 pub fn refutation_findings_tell_what_holds()
-    ensures { (e : Instance) (w : List Bool) (r : Weights) → TellWhichRefutationTestsHold e w r (refutation_findings e w r) }
+    ensures { (stable : Bool) (e : Instance) (w : List Bool) (r : Weights) → TellWhichRefutationTestsHold e w r (refutation_findings stable e w r) }
+{}
+
+/// For each unfunded project with a supporter there is just one group that is shown, so the figures of all projects are
+/// there, and no others.
+pub fn group_figures_are_one()
+    ensures exist { (m : Measure) (e : Instance) (w : List Bool) → (xs : List GroupFigures) × AreAllFigures m e w xs }
+    ensures one { (m : Measure) (e : Instance) (w : List Bool) (xs ys : List GroupFigures) → AreAllFigures m e w xs → AreAllFigures m e w ys → xs ≡ ys }
 {}

@@ -1,18 +1,22 @@
 //! Groups of voters: satisfactions, violations of extended justified representation (EJR) after Peters, Pierczyński and
-//! Skowron (2021), and laws on groups.
+//! Skowron (2021), groups that fall short (EJR+) after Brill and Peters (2023), and laws on groups.
 #![tactic(auto)]
 
 mod explaining;
+mod funded;
 pub mod laws;
 mod refutations;
 mod samples;
 mod satisfactions;
+mod short;
 mod violations;
 mod worths;
 
 pub use explaining::violation_findings;
+pub use funded::cost_of_funded;
 pub use refutations::{check_refutation, refutation_findings};
 pub use satisfactions::{Cost, Count, Satisfaction};
+pub use short::{check_groups, first_short, group_figures, members_up_to, shown_of};
 pub use violations::check_violation;
 
 /// Whether a violation certificate proves a violation.
@@ -85,6 +89,10 @@ pub enum RefutationVerdict {
     Unpriceable,
     /// No prices support the outcome whose budgets together are more than the limit.
     UnpriceableUnderCover,
+    /// No stable prices support the outcome. Others may.
+    UnpriceableStable,
+    /// No stable prices support the outcome whose budgets together are more than the limit. Others may.
+    UnpriceableStableUnderCover,
     /// A test fails. Other prices, or other weights, may do all the same.
     Failed(RefutationFailure),
 }
@@ -111,6 +119,9 @@ pub struct RefutationFindings {
     /// U2: how often the weights count the budgets of all voters, at most, below 10^23. U2 holds where this is at most
     /// `taken`.
     pub counted: u128,
+    /// U2 for stable prices, where these are asked about: the same for those, at most `counted`. It holds for them where
+    /// this is at most `taken`.
+    pub counted_stable: Option<u128>,
     /// How often the weights take the budgets of all voters, below 10^23.
     pub taken: u128,
     /// U3: what is paid at least for funded projects, each cost times its weight, and the limit times the weight of
@@ -130,4 +141,39 @@ pub struct MisplacedRows {
     pub first: Option<u32>,
     /// How many such projects there are, at most 20,000, and 0 where U1 holds.
     pub count: u32,
+}
+
+/// Whether a group of voters falls short. Projects are numbered from 1.
+#[derive(Clone, Copy, Debug, PartialEq, Eq)]
+pub enum GroupsVerdict {
+    /// No group falls short for any project.
+    Satisfied,
+    /// Groups fall short.
+    Failed {
+        /// The lowest project for which one does.
+        project: u32,
+        /// How many voters the largest such group has.
+        voters: u32,
+    },
+}
+
+/// The group that is shown for a project: the largest one that falls short for it, or where none does, the closest, which
+/// is the one whose share of the limit covers most of what it has to come to. It is all supporters of the project that
+/// got at most so much, by the measure that was asked for: as the number of the funded projects that a voter approves,
+/// or as what these cost, in millionths of the currency.
+#[derive(Clone, Copy, Debug, PartialEq, Eq)]
+pub struct GroupFigures {
+    /// The project, numbered from 1.
+    pub project: u32,
+    /// How many voters approve it, at most 1,000,000.
+    pub supporters: u32,
+    /// How many voters the group has.
+    pub voters: u32,
+    /// The most that a member got, at most 2 * 10^22.
+    pub most: u128,
+    /// What the group's share of the limit has to come to, in millionths of the currency, below 3 * 10^22. The group
+    /// falls short where this times the number of all voters is at most the limit times the voters of the group.
+    pub need: u128,
+    /// Whether it falls short.
+    pub falls_short: bool,
 }

@@ -1,12 +1,12 @@
 //! Whether the weights of a refutation refute all prices for an outcome.
 
-ghost use Rattle.std.specs.Prelude.{◌≡◌, ◌<◌, ◌↔◌, ◌⊎◌, Bool, List, None};
+ghost use Rattle.std.specs.Prelude.{◌≡◌, ◌<◌, ◌↔◌, ◌⊎◌, if◌then◌else◌, nat_lt, true, Bool, List};
 ghost use Rattle.pb_election.specs.Instance.{Instance};
 ghost use Rattle.pb_election.specs.Outcome.{OutcomeFits};
 ghost use Rattle.pb_certificate.specs.Refutations.{Weights, WeightsFit};
-ghost use Rattle.pb_cohesion.specs.FirstU.{FirstU, costs_agree, refutation_verdict_of};
+ghost use Rattle.pb_cohesion.specs.FirstU.{FirstStableU, FirstU, SaysUnpriceable, SaysUnpriceableStable, costs_agree, proved, refutation_verdict};
 ghost use Rattle.pb_cohesion.specs.RefutationFindings as found;
-ghost use Rattle.pb_cohesion.specs.Refutations.{NoPricesSupport, NoPricesWithCoverSupport, Refutes};
+ghost use Rattle.pb_cohesion.specs.Refutations.{NoPricesSupport, NoPricesWithCoverSupport, NoStablePricesSupport, NoStablePricesWithCoverSupport, Refutes, RefutesAsked, RefutesStable};
 
 use crate::{RefutationFailure, RefutationFindings, RefutationVerdict};
 use pb_certificate::Refutation;
@@ -15,60 +15,71 @@ use pb_election::{Election, Outcome};
 mod budgets;
 mod costs;
 mod findings;
+mod stable_budgets;
 
 pub use findings::refutation_findings;
 
-/// Whether the weights of a certificate refute all prices for the outcome, or else the first test that fails. The
+/// Whether the weights of a certificate refute all prices for the outcome, or else, where `stable` is asked for, all
+/// stable prices, or else the first test that fails: of those for stable prices, where these are asked about. The
 /// outcome and the certificate are to fit the election. Takes no memory.
 pub fn check_refutation(
     election: &Election,
     outcome: &Outcome,
     refutation: &Refutation,
+    stable: bool,
 ) -> RefutationVerdict
     requires outcome { OutcomeFits outcome.now election.now }
     requires refutation { WeightsFit refutation.now election.now }
-    ensures first { result ≡ refutation_verdict_of (refutation.now).cover (FirstU election.now (outcome.now).marks refutation.now) }
-    ensures refuted { ((result ≡ RefutationVerdict.Unpriceable) ⊎ (result ≡ RefutationVerdict.UnpriceableUnderCover)) ↔ Refutes election.now (outcome.now).marks refutation.now }
-    // Which of the two it says goes by the weight of Cover.
-    ensures all { result ≡ RefutationVerdict.Unpriceable → (refutation.now).cover ≡ 0 }
-    ensures covered { result ≡ RefutationVerdict.UnpriceableUnderCover → 0 < (refutation.now).cover }
+    ensures verdict { result ≡ refutation_verdict stable election.now (outcome.now).marks refutation.now }
+    ensures refuted { SaysUnpriceable result ↔ Refutes election.now (outcome.now).marks refutation.now }
+    // It says one of these exactly where the weights refute what is asked about.
+    ensures asked { (SaysUnpriceable result ⊎ SaysUnpriceableStable result) ↔ RefutesAsked stable election.now (outcome.now).marks refutation.now }
+    // Of stable prices alone it speaks where these are asked about, and the weights refute those and not all prices.
+    ensures refuted_stable { SaysUnpriceableStable result ↔ ((stable ≡ true) × RefutesStable election.now (outcome.now).marks refutation.now × (Refutes election.now (outcome.now).marks refutation.now → ⊥)) }
+    // Whether it speaks of prices under Cover alone goes by the weight of Cover.
+    ensures all { (result ≡ RefutationVerdict.Unpriceable) ⊎ (result ≡ RefutationVerdict.UnpriceableStable) → (refutation.now).cover ≡ 0 }
+    ensures covered { (result ≡ RefutationVerdict.UnpriceableUnderCover) ⊎ (result ≡ RefutationVerdict.UnpriceableStableUnderCover) → 0 < (refutation.now).cover }
     // What it says is so of all prices.
     ensures unpriceable { (result ≡ RefutationVerdict.Unpriceable → NoPricesSupport election.now (outcome.now).marks) × (result ≡ RefutationVerdict.UnpriceableUnderCover → NoPricesWithCoverSupport election.now (outcome.now).marks) }
+    // Or of all stable prices.
+    ensures unpriceable_stable { (result ≡ RefutationVerdict.UnpriceableStable → NoStablePricesSupport election.now (outcome.now).marks) × (result ≡ RefutationVerdict.UnpriceableStableUnderCover → NoStablePricesWithCoverSupport election.now (outcome.now).marks) }
 {
-    refutation_findings(election, outcome, refutation).verdict()
+    refutation_findings(election, outcome, refutation, stable).verdict()
 }
 
 impl RefutationFindings {
-    /// The verdict that the findings tell: where each test holds by them, that no prices support the outcome, or none
-    /// under Cover where that has a weight, or else the first test that fails, with its first culprit.
+    /// The verdict that the findings tell: where each test holds by them, that no prices support the outcome, or no
+    /// stable prices, or none under Cover where that has a weight, or else the first test that fails, with its first
+    /// culprit.
     pub fn verdict(&self) -> RefutationVerdict
-        ensures { (e : Instance) (w : List Bool) (r : Weights) → self.now ≡ found.refutation_findings e w r → result ≡ refutation_verdict_of r.cover (FirstU e w r) }
+        ensures { (stable : Bool) (e : Instance) (w : List Bool) (r : Weights) → self.now ≡ found.refutation_findings stable e w r → result ≡ refutation_verdict stable e w r }
     {
         match self.first_failure() {
             Some(failure) => RefutationVerdict::Failed(failure),
-            None => self.refuted(),
+            None => self.proved(),
         }
     }
 
-    // The verdict where no test fails.
-    fn refuted(&self) -> RefutationVerdict
-        ensures { result ≡ refutation_verdict_of (self.now).cover None }
+    // What is proved where no test fails: of stable prices alone, where the budgets are counted too often for all.
+    fn proved(&self) -> RefutationVerdict
+        ensures { result ≡ proved (nat_lt (self.now).taken (self.now).counted) (self.now).cover }
     {
-        if self.cover == 0 {
-            RefutationVerdict::Unpriceable
-        } else {
-            RefutationVerdict::UnpriceableUnderCover
+        match (self.taken < self.counted, self.cover == 0) {
+            (false, true) => RefutationVerdict::Unpriceable,
+            (false, false) => RefutationVerdict::UnpriceableUnderCover,
+            (true, true) => RefutationVerdict::UnpriceableStable,
+            (true, false) => RefutationVerdict::UnpriceableStableUnderCover,
         }
     }
 
-    // The first test that fails.
+    // The first test that fails, of those for stable prices where these are asked about.
     fn first_failure(&self) -> Option<RefutationFailure>
-        ensures { (e : Instance) (w : List Bool) (r : Weights) → self.now ≡ found.refutation_findings e w r → result ≡ FirstU e w r }
+        ensures { (stable : Bool) (e : Instance) (w : List Bool) (r : Weights) → self.now ≡ found.refutation_findings stable e w r → result ≡ (if stable then FirstStableU e w r else FirstU e w r) }
     {
         if let Some(j) = self.misplaced.first {
             return Some(RefutationFailure::U1(j));
         }
-        if self.taken < self.counted {
+        if self.taken < self.counted_stable.unwrap_or(self.counted) {
             return Some(RefutationFailure::U2);
         }
         if self.costs_agree() {

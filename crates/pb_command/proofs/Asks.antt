@@ -1,16 +1,17 @@
 -- Words that clap finds no fault with ask for a task.
 use Rattle.std.proofs.Common.{◌≡◌, ◌||◌, refl, Bool, true, false, not, List, [], ◌∷◌, Option, Some, None, is_some, option_map, codes, arith}
-use Rattle.std.specs.Prelude.{find, fold, slice_get, unwrap_or}
+use Rattle.std.specs.Prelude.{find, fold, if◌then◌else◌, slice_get, unwrap_or}
 use Rattle.std.specs.Str.{bytes_eq}
 use Rattle.std.specs.Option.{option_map_or}
 use Rattle.clap.specs.Kinds.{Kinds, check_kinds, or_else}
 use Rattle.clap.specs.Simple.{Shape, built, entered, help_shape, label_of, rows_at}
 use Rattle.clap.specs.Takes.{is_given}
 use Rattle.clap.specs.Faults.{check_fault, entered_fault, fault_of, level_fault, turn_fault, walk_fault}
+use Rattle.clap.specs.declared.error.kind.ErrorKind.TheVariants as kind
 use Rattle.clap.specs.Walk.{Names, Row, Text, Walk, answers_to, first_of, nothing_held, rows_after, walked, walked_from}
 use Rattle.pb_command.specs.Commands.{pbaudit}
 use Rattle.pb_command.proofs.Written.{commands_written}
-use Rattle.pb_command.specs.Tasks.{Asked, Paths, TaskOf, asked_by, asked_in, from_both, paths_in}
+use Rattle.pb_command.specs.Tasks.{Asked, Paths, TaskOf, about_certificate, about_groups, about_in, asked_by, asked_in, from_both, is_named, is_on, measure_in, names_conditions, of_certificate, of_groups, of_neither, outcome_paths_in, paths_in}
 use Rattle.pb_command.proofs.Positionals.{IsFull, IsPlaced, found_row_full, level_full}
 
 or_else_none : (a b : Kinds) → or_else a b ≡ [] → (a ≡ []) × (b ≡ [])
@@ -112,6 +113,15 @@ read_asks n met other rest e =
     let given = one_given (is_given (codes "election") rows) (last_passes false false _ (level_check s [] rest e)) in
     map_some _ (first_of (codes "election") rows) (given_first (codes "election") s rest refl given)
 
+groups_asks : AsksByName (sub_of (codes "groups"))
+unfolding sub_of commands_written
+groups_asks n met other rest e =
+    let s = sub_of (codes "groups") in
+    let rows = rows_after s.rules [] rest in
+    let given = one_given (is_given (codes "election") rows) (last_passes false false _ (level_check s [] rest e)) in
+    map_some _ (outcome_paths_in rows)
+    (map_some _ (first_of (codes "election") rows) (given_first (codes "election") s rest refl given))
+
 -- the shared paths, where the election and the certificate are given
 paths_some : (certificate : Text) (s : Shape) (rest : List Text) → IsPlaced (codes "election") s.rules
     → IsPlaced certificate s.rules
@@ -142,6 +152,61 @@ both_asks n met other rest e =
     (paths_some (codes "prices") s rest refl refl given.0 given.1.0)
     (given_first (codes "violation") s rest refl given.1.1)
 
+-- what is asked about, where the election is given
+groups_some : (rows : List Row) → is_some (first_of (codes "election") rows) ≡ true → is_some (about_groups rows) ≡ true
+groups_some rows election =
+    elim (is_named rows (codes "certificate") || names_conditions rows) as
+    (λ b. is_some (if b then Some (of_neither kind.ArgumentConflict)
+    else option_map (λ p. of_groups p (measure_in rows)) (outcome_paths_in rows)) ≡ true) [
+      | true ↦ refl
+      | false ↦ map_some _ (outcome_paths_in rows) (map_some _ (first_of (codes "election") rows) election)
+    ]
+
+certificate_some : (rows : List Row) → is_some (first_of (codes "election") rows) ≡ true
+    → is_some (about_certificate rows) ≡ true
+certificate_some rows election = go (is_named rows (codes "satisfaction")) (is_named rows (codes "certificate")) refl
+  where
+    go : (a b : Bool) → is_named rows (codes "certificate") ≡ b
+        → is_some (if a || not b then Some (of_neither kind.MissingRequiredArgument)
+        else option_map of_certificate (paths_in (codes "certificate") rows)) ≡ true
+    go true b e = refl
+    go false false e = refl
+    go false true e =
+        map_some of_certificate (paths_in (codes "certificate") rows)
+        (both_some _ (first_of (codes "election") rows) (first_of (codes "certificate") rows) election e)
+
+about_some : (rows : List Row) → is_some (first_of (codes "election") rows) ≡ true → is_some (about_in rows) ≡ true
+about_some rows election =
+    elim (is_on rows (codes "groups")) as
+    (λ b. is_some (if b then about_groups rows else about_certificate rows) ≡ true) [
+      | true ↦ groups_some rows election
+      | false ↦ certificate_some rows election
+    ]
+
+explain_asks : AsksByName (sub_of (codes "explain"))
+unfolding sub_of commands_written
+explain_asks n met other rest e =
+    let s = sub_of (codes "explain") in
+    let rows = rows_after s.rules [] rest in
+    let given = one_given (is_given (codes "election") rows) (last_passes false false _ (level_check s [] rest e)) in
+    map_some _ (about_in rows) (about_some rows (given_first (codes "election") s rest refl given))
+
+page_asks : AsksByName (sub_of (codes "page"))
+unfolding sub_of commands_written
+page_asks n met other rest e =
+    let s = sub_of (codes "page") in
+    let rows = rows_after s.rules [] rest in
+    let given = one_given (is_given (codes "election") rows) (last_passes false false _ (level_check s [] rest e)) in
+    map_some _ (about_in rows) (about_some rows (given_first (codes "election") s rest refl given))
+
+margins_asks : AsksByName (sub_of (codes "margins"))
+unfolding sub_of commands_written
+margins_asks n met other rest e =
+    let s = sub_of (codes "margins") in
+    let rows = rows_after s.rules [] rest in
+    let given = one_given (is_given (codes "election") rows) (last_passes false false _ (level_check s [] rest e)) in
+    map_some _ (about_in rows) (about_some rows (given_first (codes "election") s rest refl given))
+
 folder_asks : AsksByName (sub_of (codes "folder"))
 unfolding sub_of commands_written
 folder_asks n met other rest e =
@@ -159,22 +224,25 @@ unfolding sub_of commands_written
 all_ask = (
   read_asks,
   (
-    pair_asks _ (sub_of (codes "prices")) refl refl (λ rows. last_passes false false _) (λ rows. refl),
+    groups_asks,
     (
-      pair_asks _ (sub_of (codes "violation")) refl refl (λ rows. last_passes false false _) (λ rows. refl),
+      pair_asks _ (sub_of (codes "prices")) refl refl (λ rows. last_passes false false _) (λ rows. refl),
       (
-        pair_asks _ (sub_of (codes "refutation")) refl refl (λ rows. last_passes false false _) (λ rows. refl),
+        pair_asks _ (sub_of (codes "violation")) refl refl (λ rows. last_passes false false _) (λ rows. refl),
         (
-          both_asks,
+          pair_asks _ (sub_of (codes "refutation")) refl refl (λ rows. last_passes false false _) (λ rows. refl),
           (
-            pair_asks _ (sub_of (codes "explain")) refl refl (λ rows. last_passes false false _) (λ rows. refl),
+            both_asks,
             (
-              pair_asks _ (sub_of (codes "page")) refl refl (λ rows. last_passes false false _) (λ rows. refl),
+              explain_asks,
               (
-                pair_asks _ (sub_of (codes "margins")) refl refl (λ rows. last_passes false false _) (λ rows. refl),
+                page_asks,
                 (
-                  pair_asks _ (sub_of (codes "tidy")) refl refl (λ rows. last_passes false false _) (λ rows. refl),
-                  (folder_asks, (help_asks, tt)),
+                  margins_asks,
+                  (
+                    pair_asks _ (sub_of (codes "tidy")) refl refl (λ rows. last_passes false false _) (λ rows. refl),
+                    (folder_asks, (help_asks, tt)),
+                  ),
                 ),
               ),
             ),

@@ -3,12 +3,13 @@ use Rattle.std.proofs.Common.{◌≡◌, refl, false, true, List, [], ◌∷◌,
 use Rattle.clap.specs.Words.{Text, fault_of, takes}
 use Rattle.clap.specs.declared.error.kind.ErrorKind.TheVariants as kind
 use Rattle.clap.proofs.OnLiterals.{clap_on_literals}
+use Rattle.pb_certificate.specs.declared.violations.measure.Measure.TheVariants.{ByCost, ByCount}
 use Rattle.pb_command.specs.Commands.{pbaudit}
 use Rattle.pb_command.proofs.Written.{commands_written}
-use Rattle.pb_command.specs.Tasks.{TaskOf, asked_in, faults_of, folder, page, prices, read, tidy, violation}
+use Rattle.pb_command.specs.Tasks.{TaskOf, asked_in, explain, explain_groups, faults_of, folder, group_margins, groups, page, prices, read, tidy, violation}
 use Rattle.pb_words.specs.declared.language.Language.TheVariants.{Polish}
 
-bare_task : TaskOf (codes "pbaudit" ∷ []) ≡ Some (read None)
+bare_task : TaskOf (codes "pbaudit" ∷ []) ≡ Some (read None false)
 unfolding clap_on_literals commands_written asked_in
 bare_task = refl
 
@@ -19,7 +20,7 @@ bare_taken = refl
 abbrev read_words : List Text
 read_words = codes "pbaudit" ∷ codes "read" ∷ codes "e.pb" ∷ []
 
-read_task : TaskOf read_words ≡ Some (read (Some (codes "e.pb")))
+read_task : TaskOf read_words ≡ Some (read (Some (codes "e.pb")) false)
 unfolding clap_on_literals commands_written asked_in
 read_task = refl
 
@@ -27,12 +28,80 @@ read_taken : takes pbaudit read_words ≡ true
 unfolding clap_on_literals commands_written
 read_taken = refl
 
+abbrev groups_words : Text → List Text
+groups_words measure = codes "pbaudit" ∷ codes "groups" ∷ codes "e.pb" ∷ codes "--satisfaction" ∷ measure ∷ []
+
+groups_task : TaskOf (codes "pbaudit" ∷ codes "groups" ∷ codes "e.pb" ∷ [])
+    ≡ Some (groups (record { election = codes "e.pb"; outcome = None; json = false }) (Some ByCost))
+unfolding clap_on_literals commands_written asked_in
+groups_task = refl
+
+groups_count_task : TaskOf (groups_words (codes "count"))
+    ≡ Some (groups (record { election = codes "e.pb"; outcome = None; json = false }) (Some ByCount))
+unfolding clap_on_literals commands_written asked_in
+groups_count_task = refl
+
+groups_taken : takes pbaudit (groups_words (codes "count")) ≡ true
+unfolding clap_on_literals commands_written
+groups_taken = refl
+
+no_measure : faults_of (groups_words (codes "size")) ≡ kind.InvalidValue ∷ []
+unfolding clap_on_literals commands_written asked_in
+no_measure = refl
+
+-- groups in the certificate's place
+
+explain_groups_task : TaskOf
+    (codes "pbaudit" ∷ codes "explain" ∷ codes "e.pb" ∷ codes "--groups" ∷ codes "--satisfaction" ∷ codes "count" ∷ [])
+    ≡ Some (explain_groups (record { election = codes "e.pb"; outcome = None; json = false }) (Some ByCount))
+unfolding clap_on_literals commands_written asked_in
+explain_groups_task = refl
+
+group_margins_task : TaskOf
+    (codes "pbaudit" ∷ codes "margins" ∷ codes "--groups" ∷ codes "e.pb" ∷ codes "--outcome" ∷ codes "o.csv" ∷ [])
+    ≡ Some
+    (group_margins (record { election = codes "e.pb"; outcome = Some (codes "o.csv"); json = false }) (Some ByCost))
+unfolding clap_on_literals commands_written asked_in
+group_margins_task = refl
+
+groups_in_place_taken : takes pbaudit (codes "pbaudit" ∷ codes "margins" ∷ codes "--groups" ∷ codes "e.pb" ∷ []) ≡ true
+unfolding clap_on_literals commands_written
+groups_in_place_taken = refl
+
+neither_about : faults_of (codes "pbaudit" ∷ codes "explain" ∷ codes "e.pb" ∷ []) ≡ kind.MissingRequiredArgument ∷ []
+unfolding clap_on_literals commands_written asked_in
+neither_about = refl
+
+-- a path without a letter is one
+both_about : faults_of (codes "pbaudit" ∷ codes "explain" ∷ codes "e.pb" ∷ codes "" ∷ codes "--groups" ∷ [])
+    ≡ kind.ArgumentConflict ∷ []
+unfolding clap_on_literals commands_written asked_in
+both_about = refl
+
+conditions_beside_groups : faults_of
+    (codes "pbaudit" ∷ codes "explain" ∷ codes "e.pb" ∷ codes "--groups" ∷ codes "--no-exhaustive" ∷ [])
+    ≡ kind.ArgumentConflict ∷ []
+unfolding clap_on_literals commands_written asked_in
+conditions_beside_groups = refl
+
+measure_without_groups : faults_of
+    (codes "pbaudit" ∷ codes "margins" ∷ codes "e.pb" ∷ codes "c.csv" ∷ codes "--satisfaction" ∷ codes "cost" ∷ [])
+    ≡ kind.MissingRequiredArgument ∷ []
+unfolding clap_on_literals commands_written asked_in
+measure_without_groups = refl
+
+no_measure_in_place : faults_of
+    (codes "pbaudit" ∷ codes "margins" ∷ codes "e.pb" ∷ codes "--groups" ∷ codes "--satisfaction" ∷ codes "size" ∷ [])
+    ≡ kind.InvalidValue ∷ []
+unfolding clap_on_literals commands_written asked_in
+no_measure_in_place = refl
+
 abbrev stable_words : List Text
 stable_words = codes "pbaudit" ∷ codes "prices" ∷ codes "e.pb" ∷ codes "c.csv" ∷ codes "--stable" ∷ []
 
 stable_task : TaskOf stable_words
     ≡ Some
-    (prices (record { election = codes "e.pb"; certificate = codes "c.csv"; outcome = None })
+    (prices (record { election = codes "e.pb"; certificate = codes "c.csv"; outcome = None; json = false })
     (record { stable = true; exhaustive = true; cover = false }))
 unfolding clap_on_literals commands_written asked_in
 stable_task = refl
@@ -45,9 +114,19 @@ abbrev outcome_words : List Text
 outcome_words = codes "pbaudit" ∷ codes "prices" ∷ codes "e.pb" ∷ codes "c.csv" ∷ codes "--outcome" ∷ codes "o.csv"
     ∷ codes "--no-exhaustive" ∷ []
 
+abbrev json_words : List Text
+json_words = codes "pbaudit" ∷ codes "explain" ∷ codes "e.pb" ∷ codes "--json" ∷ codes "c.csv" ∷ []
+
+json_task : TaskOf json_words
+    ≡ Some
+    (explain (record { election = codes "e.pb"; certificate = codes "c.csv"; outcome = None; json = true })
+    (record { stable = false; exhaustive = true; cover = false }))
+unfolding clap_on_literals commands_written asked_in
+json_task = refl
+
 outcome_task : TaskOf outcome_words
     ≡ Some
-    (prices (record { election = codes "e.pb"; certificate = codes "c.csv"; outcome = Some (codes "o.csv") })
+    (prices (record { election = codes "e.pb"; certificate = codes "c.csv"; outcome = Some (codes "o.csv"); json = false })
     (record { stable = false; exhaustive = false; cover = false }))
 unfolding clap_on_literals commands_written asked_in
 outcome_task = refl
@@ -62,7 +141,7 @@ violation_words = codes "pbaudit" ∷ codes "violation" ∷ codes "e.pb" ∷ cod
 
 violation_task : TaskOf violation_words
     ≡ Some
-    (violation (record { election = codes "e.pb"; certificate = codes "v.csv"; outcome = Some (codes "o.csv") }))
+    (violation (record { election = codes "e.pb"; certificate = codes "v.csv"; outcome = Some (codes "o.csv"); json = false }))
 unfolding clap_on_literals commands_written asked_in
 violation_task = refl
 
@@ -75,7 +154,7 @@ page_words code = codes "pbaudit" ∷ codes "page" ∷ codes "e.pb" ∷ codes "c
 
 page_task : TaskOf (page_words (codes "pl"))
     ≡ Some
-    (page (record { election = codes "e.pb"; certificate = codes "c.csv"; outcome = None })
+    (page (record { election = codes "e.pb"; certificate = codes "c.csv"; outcome = None; json = false })
     (record { stable = false; exhaustive = true; cover = false }) (Some Polish))
 unfolding clap_on_literals commands_written asked_in
 page_task = refl
@@ -92,7 +171,7 @@ abbrev tidy_words : List Text
 tidy_words = codes "pbaudit" ∷ codes "tidy" ∷ codes "e.pb" ∷ codes "c.csv" ∷ []
 
 tidy_task : TaskOf tidy_words
-    ≡ Some (tidy (record { election = codes "e.pb"; certificate = codes "c.csv"; outcome = None }))
+    ≡ Some (tidy (record { election = codes "e.pb"; certificate = codes "c.csv"; outcome = None; json = false }))
 unfolding clap_on_literals commands_written asked_in
 tidy_task = refl
 
@@ -101,10 +180,10 @@ unfolding clap_on_literals commands_written
 tidy_taken = refl
 
 abbrev folder_words : List Text
-folder_words = codes "pbaudit" ∷ codes "folder" ∷ codes "d" ∷ codes "--no-exhaustive" ∷ []
+folder_words = codes "pbaudit" ∷ codes "folder" ∷ codes "d" ∷ codes "--no-exhaustive" ∷ codes "--json" ∷ []
 
 folder_task : TaskOf folder_words
-    ≡ Some (folder (codes "d") (record { stable = false; exhaustive = false; cover = false }))
+    ≡ Some (folder (codes "d") (record { stable = false; exhaustive = false; cover = false }) true)
 unfolding clap_on_literals commands_written asked_in
 folder_task = refl
 

@@ -1,16 +1,18 @@
 -- What a description in the program's own table of commands stands for.
 use Rattle.std.specs.Prelude.{fold}
 use Rattle.clap.specs.Words.{App, Rule, new_app, with_rule, with_subcommand}
-use Rattle.pb_command.specs.Commands.{language_rule, outcome_rule, path_rule, switch_rule}
+use Rattle.pb_command.specs.Commands.{certificate_rule, language_rule, outcome_rule, path_rule, satisfaction_rule, switch_rule}
 use Rattle.pb_command.specs.declared.command.Description.{Description}
 use Rattle.pb_command.specs.declared.command.Parameter.{Parameter}
 use Rattle.pb_command.specs.declared.command.Parameter.TheVariants as parameter
 
 abbrev pub rule_of_parameter : Parameter → Rule
 rule_of_parameter (parameter.Path id name help) = path_rule id.now
+rule_of_parameter (parameter.Certificate help) = certificate_rule
 rule_of_parameter (parameter.Switch name help) = switch_rule name.now
 rule_of_parameter parameter.Outcome = outcome_rule
 rule_of_parameter parameter.Language = language_rule
+rule_of_parameter parameter.Satisfaction = satisfaction_rule
 
 abbrev pub with_parameter : App → Parameter → App
 with_parameter a p = with_rule a (rule_of_parameter p)

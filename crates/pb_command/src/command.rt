@@ -1,11 +1,11 @@
 //! The commands of `pbaudit`, as clap reads them.
 ghost use Rattle.std.specs.Prelude.{◌≡◌, IfOk, codes, false, fold};
 ghost use Rattle.clap.specs.Words.{App, new_app, rule_of};
-ghost use Rattle.pb_command.specs.Commands.{IsCommand, pbaudit, with_version};
+ghost use Rattle.pb_command.specs.Commands.{IsCommand, pbaudit, with_questions, with_tables, with_version};
 ghost use Rattle.pb_command.specs.Descriptions.{app_described, rule_of_parameter, with_described};
 
 use crate::help::{
-    BOTH_NOTES, EXPLAIN_NOTES, FOLDER_NOTES, MARGINS_NOTES, PAGE_NOTES, PRICES_NOTES,
+    BOTH_NOTES, EXPLAIN_NOTES, FOLDER_NOTES, GROUPS_NOTES, MARGINS_NOTES, PAGE_NOTES, PRICES_NOTES,
     PROGRAM_NOTES, READ_NOTES, REFUTATION_NOTES, TIDY_NOTES, VIOLATION_NOTES,
 };
 use clap::{Arg, ArgAction, Command};
@@ -29,6 +29,10 @@ enum Parameter {
         name: &'static str,
         help: &'static str,
     },
+    /// The path of a certificate of any kind, where `--groups` doesn't stand in its place.
+    Certificate {
+        help: &'static str,
+    },
     /// A switch, off unless its name is among the words.
     Switch {
         name: &'static str,
@@ -38,6 +42,8 @@ enum Parameter {
     Outcome,
     /// The code of the language of a page.
     Language,
+    /// The name of a measure of what voters got.
+    Satisfaction,
 }
 
 const ELECTION: Parameter = Parameter::Path {
@@ -52,10 +58,13 @@ const PRICE_CERTIFICATE: Parameter = Parameter::Path {
     help: "The price certificate, a CSV file",
 };
 
-const ANY_CERTIFICATE: Parameter = Parameter::Path {
-    id: "certificate",
-    name: "CERTIFICATE",
+const ANY_CERTIFICATE: Parameter = Parameter::Certificate {
     help: "The certificate of prices, a violation or a refutation, a CSV file",
+};
+
+const GROUPS: Parameter = Parameter::Switch {
+    name: "groups",
+    help: "Ask about groups that fall short, instead of a certificate",
 };
 
 const STABLE: Parameter = Parameter::Switch {
@@ -73,13 +82,24 @@ const COVER: Parameter = Parameter::Switch {
     help: "Add the condition Cover",
 };
 
-/// The commands that audit one outcome, in the order of help.
-const AUDITS: [Description; 7] = [
+const JSON: Parameter = Parameter::Switch {
+    name: "json",
+    help: "Print one JSON object with all that is found, for programs",
+};
+
+/// The commands that answer a question on an election or an outcome, in the order of help.
+const QUESTIONS: [Description; 6] = [
     Description {
         name: "read",
         about: "Read an election and print how many voters and projects it has",
-        parameters: &[ELECTION],
+        parameters: &[ELECTION, JSON],
         notes: READ_NOTES,
+    },
+    Description {
+        name: "groups",
+        about: "Check whether a group of voters falls short, for an outcome without a certificate",
+        parameters: &[ELECTION, Parameter::Satisfaction, Parameter::Outcome, JSON],
+        notes: GROUPS_NOTES,
     },
     Description {
         name: "prices",
@@ -91,6 +111,7 @@ const AUDITS: [Description; 7] = [
             NO_EXHAUSTIVE,
             COVER,
             Parameter::Outcome,
+            JSON,
         ],
         notes: PRICES_NOTES,
     },
@@ -105,6 +126,7 @@ const AUDITS: [Description; 7] = [
                 help: "The violation certificate, a CSV file",
             },
             Parameter::Outcome,
+            JSON,
         ],
         notes: VIOLATION_NOTES,
     },
@@ -118,7 +140,12 @@ const AUDITS: [Description; 7] = [
                 name: "CERTIFICATE",
                 help: "The refutation, a CSV file",
             },
+            Parameter::Switch {
+                name: "stable",
+                help: "Ask too whether the weights refute stable prices alone",
+            },
             Parameter::Outcome,
+            JSON,
         ],
         notes: REFUTATION_NOTES,
     },
@@ -141,19 +168,27 @@ const AUDITS: [Description; 7] = [
             NO_EXHAUSTIVE,
             COVER,
             Parameter::Outcome,
+            JSON,
         ],
         notes: BOTH_NOTES,
     },
+];
+
+/// The commands behind those that tell more of a certificate.
+const TABLES: [Description; 3] = [
     Description {
         name: "explain",
         about: "Check a certificate and print the figures of each condition or test",
         parameters: &[
             ELECTION,
             ANY_CERTIFICATE,
+            GROUPS,
+            Parameter::Satisfaction,
             STABLE,
             NO_EXHAUSTIVE,
             COVER,
             Parameter::Outcome,
+            JSON,
         ],
         notes: EXPLAIN_NOTES,
     },
@@ -163,6 +198,8 @@ const AUDITS: [Description; 7] = [
         parameters: &[
             ELECTION,
             ANY_CERTIFICATE,
+            GROUPS,
+            Parameter::Satisfaction,
             STABLE,
             NO_EXHAUSTIVE,
             COVER,
@@ -171,16 +208,24 @@ const AUDITS: [Description; 7] = [
         ],
         notes: PAGE_NOTES,
     },
-];
-
-/// The commands behind those, in the order of help.
-const OTHERS: [Description; 3] = [
     Description {
         name: "margins",
         about: "Print what each project costs, is paid and could be offered, as CSV",
-        parameters: &[ELECTION, PRICE_CERTIFICATE, Parameter::Outcome],
+        parameters: &[
+            ELECTION,
+            Parameter::Certificate {
+                help: "The price certificate, a CSV file",
+            },
+            GROUPS,
+            Parameter::Satisfaction,
+            Parameter::Outcome,
+        ],
         notes: MARGINS_NOTES,
     },
+];
+
+/// The commands behind those.
+const OTHERS: [Description; 2] = [
     Description {
         name: "tidy",
         about: "Print a price certificate in its canonical form",
@@ -199,6 +244,10 @@ const OTHERS: [Description; 3] = [
             STABLE,
             NO_EXHAUSTIVE,
             COVER,
+            Parameter::Switch {
+                name: "json",
+                help: "Print a JSON object for each election and one for the total, for programs",
+            },
         ],
         notes: FOLDER_NOTES,
     },
@@ -208,9 +257,22 @@ const OTHERS: [Description; 3] = [
 pub(crate) fn pbaudit_command<'a>(alloc: Global) -> Result<Command<'a>, AllocError>
     ensures { IfOk result (IsCommand pbaudit) }
 {
-    let audits = with_commands(alloc, bare_program(alloc), &AUDITS)?;
-    let all = with_commands(alloc, audits, &OTHERS)?;
+    let all = with_commands(alloc, with_tables(alloc)?, &OTHERS)?;
     Ok(all.after_help(PROGRAM_NOTES))
+}
+
+/// The program with all commands but the last.
+fn with_tables<'a>(alloc: Global) -> Result<Command<'a>, AllocError>
+    ensures { IfOk result (IsCommand with_tables) }
+{
+    with_commands(alloc, with_questions(alloc)?, &TABLES)
+}
+
+/// The program with the first commands.
+fn with_questions<'a>(alloc: Global) -> Result<Command<'a>, AllocError>
+    ensures { IfOk result (IsCommand with_questions) }
+{
+    with_commands(alloc, bare_program(alloc), &QUESTIONS)
 }
 
 /// The program, without commands.
@@ -258,6 +320,9 @@ fn arg_of<'a>(alloc: Global, parameter: &Parameter) -> Arg<'a>
             .required(true)
             .value_name(name)
             .help(help),
+        Parameter::Certificate { help } => Arg::new(alloc, "certificate")
+            .value_name("CERTIFICATE")
+            .help(help),
         Parameter::Switch { name, help } => Arg::new(alloc, name)
             .long(name)
             .action(ArgAction::SetTrue)
@@ -270,5 +335,9 @@ fn arg_of<'a>(alloc: Global, parameter: &Parameter) -> Arg<'a>
             .long("language")
             .value_name("CODE")
             .help("Write the page in this language: en, pl, de or fr"),
+        Parameter::Satisfaction => Arg::new(alloc, "satisfaction")
+            .long("satisfaction")
+            .value_name("MEASURE")
+            .help("Measure what voters got by 'cost' or by 'count'; by cost where none is named"),
     }
 }

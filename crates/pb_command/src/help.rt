@@ -7,6 +7,9 @@ it waits for one: type or paste it, and end it with Ctrl-D on a line of its own.
 
 A path that begins with '-' needs '--' before it: pbaudit read -- -town.pb
 
+With --json a command that has it prints one JSON object in a line, for other
+programs, also where a file is refused.
+
 Exit statuses:
   0  yes: the answer is yes, or what was asked for is printed
   1  no: a condition or a test failed; the first one is printed
@@ -17,13 +20,17 @@ Exit statuses:
 Examples:
   pbaudit read town.pb
   pbaudit < town.pb
+  pbaudit groups town.pb
   pbaudit prices town.pb town.prices.csv --stable
   pbaudit violation town.pb town.violation.csv
   pbaudit refutation town.pb town.refutation.csv
   pbaudit both town.pb town.prices.csv town.violation.csv --stable --cover
   pbaudit explain town.pb town.prices.csv --stable
+  pbaudit explain town.pb town.prices.csv --stable --json
+  pbaudit explain town.pb --groups
   pbaudit page town.pb town.prices.csv --stable > page.html
   pbaudit margins town.pb town.prices.csv > margins.csv
+  pbaudit margins town.pb --groups > groups.csv
   pbaudit tidy town.pb town.prices.csv > canonical.csv
   pbaudit folder elections";
 
@@ -39,10 +46,47 @@ A file that is not an election with approval ballots is refused. The line names
 the first error and its record, counted from 1 without empty lines:
   refused election 9 BadMoney record 6
 
+With --json it prints one JSON object in a line instead, which also has the
+budget limit.
+
 Exit statuses: 0 read, 2 refused, 3 usage, 4 error.
 
-Example:
-  pbaudit read town.pb";
+Examples:
+  pbaudit read town.pb
+  pbaudit read town.pb --json";
+
+/// What `groups` decides.
+pub(crate) const GROUPS_NOTES: &str = "\
+Needs no certificate: the election and its outcome decide it. Take any group of
+voters who all approve an unfunded project. The group falls short for it if its
+share of the budget limit, in proportion to its size, would have been enough for
+the project on top of what any one of its voters got: for what the project costs
+and the funded projects on that voter's own ballot cost, together. An outcome
+for which no group falls short satisfies extended justified representation up to
+any project (EJR+).
+With --satisfaction count the share is compared with the cost of the project
+for each funded project on that voter's ballot, and once more.
+
+Prints 'satisfied ejr+ by cost', or how many voters the largest group has that
+falls short for a project, and the first such project by its row:
+  failed EJR+ by cost voters 120 project park
+With --satisfaction count the lines say 'by count'.
+
+A yes doesn't exclude a violation of EJR, says nothing of prices, and doesn't
+look at the budget limit: a note follows if the funded projects cost more. A no
+doesn't say that the project could simply be added.
+
+An outcome file has the record pb-outcome,1 and then a record project,ID for
+each funded project.
+
+With --json it prints one JSON object in a line instead.
+
+Exit statuses: 0 satisfied, 1 failed, 2 refused, 3 usage, 4 error.
+
+Examples:
+  pbaudit groups town.pb
+  pbaudit groups town.pb --satisfaction count --outcome town.outcome.csv
+  pbaudit groups town.pb --json";
 
 /// What `prices` checks.
 pub(crate) const PRICES_NOTES: &str = "\
@@ -83,11 +127,15 @@ the outcome. That none do, or none with Cover, is what a refutation proves.
 An outcome file has the record pb-outcome,1 and then a record project,ID for
 each funded project.
 
+With --json it prints one JSON object in a line instead, which also has what
+'explain' finds of each condition.
+
 Exit statuses: 0 supported, 1 failed, 2 refused, 3 usage, 4 error.
 
 Examples:
   pbaudit prices town.pb town.prices.csv
-  pbaudit prices town.pb town.prices.csv --stable --outcome town.outcome.csv";
+  pbaudit prices town.pb town.prices.csv --stable --outcome town.outcome.csv
+  pbaudit prices town.pb town.prices.csv --json";
 
 /// What `violation` tests.
 pub(crate) const VIOLATION_NOTES: &str = "\
@@ -102,7 +150,7 @@ justified representation (EJR) if all of these tests are passed, which are tried
 in this order:
   V1  the group has at least one voter
   V2  every voter of the group approves every project of the demand
-  V3  the group's share of the budget limit, by its share of all voters, covers
+  V3  the group's share of the budget limit, in proportion to its size, covers
       the cost of the demand
   V4  for every voter of the group, the funded projects that the voter approves
       are worth less than the demand
@@ -119,11 +167,15 @@ A no is about this group and demand only: others may be a violation.
 An outcome file has the record pb-outcome,1 and then a record project,ID for
 each funded project.
 
+With --json it prints one JSON object in a line instead, which also has what
+'explain' finds of each test.
+
 Exit statuses: 0 violation, 1 failed, 2 refused, 3 usage, 4 error.
 
 Examples:
   pbaudit violation town.pb town.violation.csv
-  pbaudit violation town.pb town.violation.csv --outcome town.outcome.csv";
+  pbaudit violation town.pb town.violation.csv --outcome town.outcome.csv
+  pbaudit violation town.pb town.violation.csv --json";
 
 /// What `refutation` tests.
 pub(crate) const REFUTATION_NOTES: &str = "\
@@ -163,14 +215,28 @@ that fails, and for U1 the first project at which it fails:
   failed U1 project park
 A no is about these weights only: others may prove it.
 
+With --stable, weights that don't prove it may still prove that no stable prices
+support the outcome, those of 'prices --stable'. Then 'unpriceable stable' or
+'unpriceable stable cover' is printed, and otherwise the first test that fails,
+U2 with a smaller gain: the least whole number such that what the funded
+projects on the ballot come to above it, added up, is no more than that number,
+and no more than the unfunded projects on the ballot weigh together. A funded
+project comes to what these weigh, with its own weight added for 'least' or taken
+off for 'most'.
+
 An outcome file has the record pb-outcome,1 and then a record project,ID for
 each funded project.
+
+With --json it prints one JSON object in a line instead, which also has what
+'explain' finds of each test.
 
 Exit statuses: 0 unpriceable, 1 failed, 2 refused, 3 usage, 4 error.
 
 Examples:
   pbaudit refutation town.pb town.refutation.csv
-  pbaudit refutation town.pb town.refutation.csv --outcome town.outcome.csv";
+  pbaudit refutation town.pb town.refutation.csv --stable
+  pbaudit refutation town.pb town.refutation.csv --outcome town.outcome.csv
+  pbaudit refutation town.pb town.refutation.csv --json";
 
 /// What `both` checks.
 pub(crate) const BOTH_NOTES: &str = "\
@@ -190,12 +256,16 @@ about the first such file, and it calls the certificates 'prices' and
 'violation':
   refused violation 21 BadHead record 1
 
+With --json it prints one JSON object in a line instead, which has the objects
+that 'prices' and 'violation' print.
+
 Exit statuses: 0 supported and a violation, 1 a condition or a test failed,
 2 refused, 3 usage, 4 error.
 
 Examples:
   pbaudit both town.pb town.prices.csv town.violation.csv --stable --cover
-  pbaudit both town.pb town.prices.csv town.violation.csv --outcome other.csv";
+  pbaudit both town.pb town.prices.csv town.violation.csv --outcome other.csv
+  pbaudit both town.pb town.prices.csv town.violation.csv --json";
 
 /// What `explain` prints.
 pub(crate) const EXPLAIN_NOTES: &str = "\
@@ -218,38 +288,61 @@ is one.
 All figures are exact: an amount is a decimal with two to six places if that is
 exact, and otherwise a whole number and a fraction, such as 12865 1/3.
 
-The options --stable, --no-exhaustive and --cover matter only for prices. The
-outcome is as for 'prices', and so is the answer if a file is refused.
+The options --no-exhaustive and --cover matter only for prices, and --stable only
+for prices and for a refutation, as for 'refutation'. The outcome is as for
+'prices', and so is the answer if a file is refused.
 
-Exit statuses: 0 supported, a violation or unpriceable, 1 a condition or a test
-failed, 2 refused, 3 usage, 4 error.
+With --groups instead of a certificate it prints the line that 'groups' prints,
+an empty line, and the figures of one group: after a no the largest that
+falls short for the project, and after a yes the one that comes closest to it:
+  failed EJR+ by cost voters 2 project pool
+
+  Project     2 of 3 voters approve project pool, which costs 4.00
+  Group       2 of these: all who got at most 0.00 by cost
+  Need        4.00: the cost of the project and the most that a member got
+  Share       4.00: the equal part of the limit for so many voters
+  Over        0.00: the share is enough, so the group falls short
+The option --satisfaction is as for 'groups'. One of --groups and a certificate is
+needed, and not both.
+
+With --json it prints one JSON object in a line instead: the one of 'prices',
+'violation', 'refutation' or 'groups'.
+
+Exit statuses: 0 supported, a violation, unpriceable or satisfied, 1 a condition
+or a test failed, 2 refused, 3 usage, 4 error.
 
 Examples:
   pbaudit explain town.pb town.prices.csv
   pbaudit explain town.pb town.prices.csv --stable --cover
   pbaudit explain town.pb town.refutation.csv
-  pbaudit explain town.pb town.violation.csv --outcome town.outcome.csv";
+  pbaudit explain town.pb town.violation.csv --outcome town.outcome.csv
+  pbaudit explain town.pb town.prices.csv --json
+  pbaudit explain town.pb --groups --satisfaction count";
 
 /// What `page` prints.
 pub(crate) const PAGE_NOTES: &str = "\
 Prints one HTML file that says in plain words what 'explain' finds: the answer
 in a sentence, the projects with their figures, each condition or test, and the
 files with their SHA-256 sums. It has no script and loads nothing, so it can be
-opened in any browser, sent, or printed.
+opened in any browser, sent, or printed. With --groups in the certificate's place
+it says whether a group of voters falls short, as 'groups' does, with the group of
+each project that was not funded; --satisfaction count counts projects.
 
 The language is English (en), Polish (pl), German (de) or French (fr), and
 English if none is given.
 
-The options --stable, --no-exhaustive and --cover matter only for prices. The
-outcome is as for 'prices'. If a file is refused, the line that 'explain' prints
-is printed, and no page.
+The options --no-exhaustive and --cover matter only for prices, and --stable only
+for prices and for a refutation, as for 'refutation'. The outcome is as for
+'prices'. If a file is refused, the line that 'explain' prints is printed, and no
+page.
 
-Exit statuses: 0 supported, a violation or unpriceable, 1 a condition or a test
-failed, 2 refused, 3 usage, 4 error.
+Exit statuses: 0 supported, a violation, unpriceable or no group falls short, 1 a
+condition or a test failed or a group falls short, 2 refused, 3 usage, 4 error.
 
 Examples:
   pbaudit page town.pb town.prices.csv > page.html
-  pbaudit page town.pb town.violation.csv --language pl > page.html";
+  pbaudit page town.pb town.violation.csv --language pl > page.html
+  pbaudit page town.pb --groups > groups.html";
 
 /// What `margins` prints.
 pub(crate) const MARGINS_NOTES: &str = "\
@@ -273,14 +366,35 @@ In these figures C3 asks that 'paid' is 'cost' where 'funded' is 1. Where it is
 0, C4 asks that 'paid' is 0, C5 that 'left' is no more than 'cost', and S5 that
 'offer' is no more than 'cost'.
 
+With --groups instead of a certificate there is a row for each project
+that isn't funded and that somebody approves. It is about the largest group that
+falls short for the project, as for 'groups', and where none does about the one
+that comes closest:
+  pb-groups,1
+  satisfaction,cost
+  denominator,3
+  project,voters,most,need,share,missing
+  pool,2,0,12000000,12000000,0
+  voters   how many voters the group has: all supporters who got at most 'most'
+  most     the most that a member got: in millionths of a unit, or with
+           --satisfaction count how many projects
+  need     what the group's share of the budget limit has to come to
+  share    what it comes to
+  missing  'need' less 'share', which is more than 0 only where no group falls
+           short
+Need, share and missing are whole numbers of millionths over the denominator,
+the number of voters. Here the pool needs 12000000/3 millionths, which is 4.
+
 If a file is refused, a line is printed instead of the table, as with 'prices'.
-The table is printed whether or not the certificate supports the outcome.
+The table is printed whether or not the certificate supports the outcome, and
+whether or not a group falls short.
 
 Exit statuses: 0 printed, 2 refused, 3 usage, 4 error.
 
 Examples:
   pbaudit margins town.pb town.prices.csv > margins.csv
-  pbaudit margins town.pb town.prices.csv --outcome town.outcome.csv";
+  pbaudit margins town.pb town.prices.csv --outcome town.outcome.csv
+  pbaudit margins town.pb --groups --satisfaction count > groups.csv";
 
 /// What `tidy` prints.
 pub(crate) const TIDY_NOTES: &str = "\
@@ -333,7 +447,9 @@ answered yes, those answered no, and the refused files:
   krakow-2023.violation.csv: failed V4 voter 1
   lodz-2022.pb: refused election 2 NoMeta record 1
   total 2 elections 1 yes 1 no 1 refused
-The outcomes are those that the elections state: outcome files are not used.
+With --json there is an object for each election in place of its lines, with its
+name and the objects of its answers, and one for the total, a line each. The
+outcomes are those that the elections state: outcome files are not used.
 
 Exit statuses: 0 nothing refused and no certificate failed, 1 nothing refused
 and a certificate failed, 2 a file is refused, 3 usage, 4 error.

@@ -5,4 +5,4 @@ mod command;
 mod help;
 mod task;
 
-pub use task::{Inputs, Task, UsageFault, task_of};
+pub use task::{Inputs, OutcomeInputs, Task, UsageFault, task_of};

@@ -14,16 +14,29 @@ ghost use Rattle.pb_command.specs.declared.task.UsageFault.TheVariants.{Memory};
 ghost use Rattle.pb_command.specs.Tasks.{
   FitsKind,
   IsFaultOf,
+  IsNoHelp,
+  IsRefusalAbout,
   IsRefusalOf,
   TaskOf,
+  about,
+  about_certificate,
+  about_groups,
+  about_in,
   asked,
   asked_by,
   asked_in,
   faults_of,
+  is_named,
   is_on,
-  language_fault,
+  names_conditions,
+  value_fault,
   language_in,
+  measure_in,
+  measure_of,
   mode_in,
+  outcome_paths,
+  outcome_paths_in,
+  paged,
   paths,
   paths_in,
 };
@@ -31,11 +44,12 @@ ghost use Rattle.pb_command.specs.Tasks.{
 use crate::command::pbaudit_command;
 use clap::error::ErrorKind;
 use clap::{ArgMatches, Error};
+use pb_certificate::Measure;
 use pb_price::Mode;
 use pb_words::Language;
 use std::alloc::{AllocError, Global};
 
-/// The files that commands on a certificate share. Each text is a path, as it stands among the words.
+/// What commands on a certificate share. Each text is a path, as it stands among the words.
 #[derive(Debug, Drop)]
 pub struct Inputs {
     /// The election.
@@ -44,13 +58,38 @@ pub struct Inputs {
     pub certificate: String,
     /// The outcome file. Where none is named, the outcome is the election's own.
     pub outcome: Option<String>,
+    /// Whether the answer is to be a JSON object. It never is for a page, a table of margins or a canonical text.
+    pub json: bool,
+}
+
+/// What commands on an outcome without a certificate share. Each text is a path, as it stands among the words.
+#[derive(Debug, Drop)]
+pub struct OutcomeInputs {
+    /// The election.
+    pub election: String,
+    /// The outcome file. Where none is named, the outcome is the election's own.
+    pub outcome: Option<String>,
+    /// Whether the answer is to be a JSON object.
+    pub json: bool,
 }
 
 /// What a line of words asks for.
 #[derive(Debug, Drop)]
 pub enum Task {
-    /// Read the election at this path, or the one on standard input.
-    Read(Option<String>),
+    /// Read an election.
+    Read {
+        /// The election's path. Where there is none, it is on standard input.
+        election: Option<String>,
+        /// Whether the answer is to be a JSON object.
+        json: bool,
+    },
+    /// Decide whether a group of voters falls short.
+    Groups {
+        /// The files.
+        inputs: OutcomeInputs,
+        /// The measure of what voters got: by cost where none is named.
+        measure: Measure,
+    },
     /// Check a price certificate.
     Prices {
         /// The files.
@@ -61,7 +100,12 @@ pub enum Task {
     /// Check a violation certificate.
     Violation(Inputs),
     /// Check a refutation.
-    Refutation(Inputs),
+    Refutation {
+        /// The files.
+        inputs: Inputs,
+        /// Whether it is asked too whether the weights refute stable prices alone.
+        stable: bool,
+    },
     /// Check a price certificate and a violation certificate.
     Both {
         /// The files, with the price certificate.
@@ -75,20 +119,43 @@ pub enum Task {
     Explain {
         /// The files.
         inputs: Inputs,
-        /// Which conditions on prices are asked for.
+        /// Which conditions on prices are asked for, and whether a refutation is asked about stable prices too.
         mode: Mode,
+    },
+    /// Decide whether a group of voters falls short, and write the figures of one group.
+    ExplainGroups {
+        /// The files.
+        inputs: OutcomeInputs,
+        /// The measure of what voters got: by cost where none is named.
+        measure: Measure,
     },
     /// Check a certificate of any kind and write a page for people.
     Page {
         /// The files.
         inputs: Inputs,
-        /// Which conditions on prices are asked for.
+        /// Which conditions on prices are asked for, and whether a refutation is asked about stable prices too.
         mode: Mode,
+        /// The language of the page: English where none is named.
+        language: Language,
+    },
+    /// Decide whether a group of voters falls short, and write a page for people.
+    GroupsPage {
+        /// The files.
+        inputs: OutcomeInputs,
+        /// The measure of what voters got: by cost where none is named.
+        measure: Measure,
         /// The language of the page: English where none is named.
         language: Language,
     },
     /// Write the figures of each project by a price certificate.
     Margins(Inputs),
+    /// Write the figures of one group for each unfunded project with a supporter.
+    GroupMargins {
+        /// The files.
+        inputs: OutcomeInputs,
+        /// The measure of what voters got: by cost where none is named.
+        measure: Measure,
+    },
     /// Write a price certificate in its canonical form. No outcome file is named.
     Tidy(Inputs),
     /// Audit the elections of a folder with their certificates.
@@ -97,7 +164,18 @@ pub enum Task {
         folder: String,
         /// Which conditions are asked for.
         mode: Mode,
+        /// Whether the report is to be JSON objects.
+        json: bool,
     },
+}
+
+/// What `explain`, `page` and `margins` are about.
+#[derive(Drop)]
+enum Subject {
+    /// A certificate.
+    Certificate(Inputs),
+    /// Groups that fall short by a measure, with the files.
+    Groups(OutcomeInputs, Measure),
 }
 
 /// Why a line of words gives no task.
@@ -122,13 +200,13 @@ impl From<AllocError> for UsageFault {
 /// The task that the words ask for, the first of which is the program's name.
 ///
 /// # Errors
-/// `Help` where the words ask for help or the version, `Usage` where they are no line of a
-/// command or name a language that there isn't, and `Memory` if memory ran out, which comes only
-/// after a failed allocation; that is tested and not proved.
+/// `Help` where the words ask for help or the version, `Usage` where they are no line of a command, name a measure or a
+/// language that there isn't, or leave open whether a certificate or groups are asked about, and `Memory` if memory ran
+/// out, which comes only after a failed allocation; that is tested and not proved.
 pub fn task_of(alloc: Global, words: Vec<String>) -> Result<Task, UsageFault>
     ensures task { IfOk result (λ t. Some (asked t) ≡ TaskOf (map string_bytes words.items)) }
     ensures taken { takes pbaudit (map string_bytes words.items) ≡ true
-        → language_fault (TaskOf (map string_bytes words.items)) ≡ [] → IfErr result (λ e. e ≡ UsageFault.Memory) }
+        → value_fault (TaskOf (map string_bytes words.items)) ≡ [] → IfErr result (λ e. e ≡ UsageFault.Memory) }
     ensures accepted { IfOk result (λ _. faults_of (map string_bytes words.items) ≡ []) }
     ensures refused { IfErr result (IsFaultOf (faults_of (map string_bytes words.items))) }
 {
@@ -165,7 +243,10 @@ fn task_in(alloc: Global, matches: &ArgMatches<'_>) -> Result<Option<Task>, Usag
 {
     match matches.subcommand() {
         Some((name, inner)) => command_task(alloc, name, inner),
-        None => Ok(Some(Task::Read(None))),
+        None => Ok(Some(Task::Read {
+            election: None,
+            json: false,
+        })),
     }
 }
 
@@ -180,6 +261,7 @@ fn command_task(
 {
     Ok(match name {
         "read" => read_task(alloc, matches)?,
+        "groups" => groups_task(alloc, matches)?,
         "prices" => prices_task(alloc, matches)?,
         "violation" => violation_task(alloc, matches)?,
         "refutation" => refutation_task(alloc, matches)?,
@@ -197,8 +279,64 @@ fn read_task(alloc: Global, matches: &ArgMatches<'_>) -> Result<Option<Task>, Al
     ensures { IfOk result (λ t. option_map asked t ≡ asked_by (codes "read") (rows_of (found_of matches.now))) }
 {
     match text_of(alloc, matches, "election")? {
-        Some(election) => Ok(Some(Task::Read(Some(election)))),
+        Some(election) => Ok(Some(Task::Read {
+            election: Some(election),
+            json: is_given(matches, "json"),
+        })),
         None => Ok(None),
+    }
+}
+
+fn groups_task(alloc: Global, matches: &ArgMatches<'_>) -> Result<Option<Task>, UsageFault>
+    ensures task { IfOk result (λ t. option_map asked t ≡ asked_by (codes "groups") (rows_of (found_of matches.now))) }
+    ensures refused { IfErr result (IsRefusalOf (asked_by (codes "groups") (rows_of (found_of matches.now)))) }
+{
+    let Some(inputs) = outcome_inputs_of(alloc, matches)? else {
+        return Ok(None);
+    };
+    match measure_of(matches) {
+        Some(measure) => Ok(Some(Task::Groups { inputs, measure })),
+        None => Err(no_measure(alloc)),
+    }
+}
+
+/// The measure that the words name, or that by cost: nothing where there is none of the name that they give.
+fn measure_of(matches: &ArgMatches<'_>) -> Option<Measure>
+    ensures { result ≡ measure_in (rows_of (found_of matches.now)) }
+{
+    match matches.get_str("satisfaction") {
+        Some(name) => measure_named(name.as_bytes()),
+        None => Some(Measure::ByCost),
+    }
+}
+
+/// The measure of this name.
+fn measure_named(name: &[u8]) -> Option<Measure>
+    ensures { result ≡ measure_of name.now }
+{
+    if name == b"cost".as_slice() {
+        return Some(Measure::ByCost);
+    }
+    if name == b"count".as_slice() {
+        return Some(Measure::ByCount);
+    }
+    None
+}
+
+/// What is told of a measure that there isn't.
+fn no_measure(alloc: Global) -> UsageFault
+    ensures { (result ≡ UsageFault.Memory) ⊎ FitsKind InvalidValue result }
+{
+    words_refused(alloc, "error: the satisfaction has to be cost or count\n")
+}
+
+/// What is told of words that aren't understood.
+fn words_refused(alloc: Global, words: &str) -> UsageFault
+    ensures { IsNoHelp result }
+{
+    match String::from_str(alloc, words) {
+        Ok(text) => UsageFault::Usage(text),
+        Err(_) => UsageFault::Memory,
     }
 }
 
@@ -224,8 +362,9 @@ fn violation_task(alloc: Global, matches: &ArgMatches<'_>) -> Result<Option<Task
 fn refutation_task(alloc: Global, matches: &ArgMatches<'_>) -> Result<Option<Task>, AllocError>
     ensures { IfOk result (λ t. option_map asked t ≡ asked_by (codes "refutation") (rows_of (found_of matches.now))) }
 {
+    let stable = is_given(matches, "stable");
     match inputs_of(alloc, matches, "certificate")? {
-        Some(inputs) => Ok(Some(Task::Refutation(inputs))),
+        Some(inputs) => Ok(Some(Task::Refutation { inputs, stable })),
         None => Ok(None),
     }
 }
@@ -245,14 +384,89 @@ fn both_task(alloc: Global, matches: &ArgMatches<'_>) -> Result<Option<Task>, Al
     }
 }
 
-fn explain_task(alloc: Global, matches: &ArgMatches<'_>) -> Result<Option<Task>, AllocError>
-    ensures { IfOk result (λ t. option_map asked t ≡ asked_by (codes "explain") (rows_of (found_of matches.now))) }
+fn explain_task(alloc: Global, matches: &ArgMatches<'_>) -> Result<Option<Task>, UsageFault>
+    ensures task { IfOk result (λ t. option_map asked t ≡ asked_by (codes "explain") (rows_of (found_of matches.now))) }
+    ensures refused { IfErr result (IsRefusalOf (asked_by (codes "explain") (rows_of (found_of matches.now)))) }
 {
     let mode = mode_of(matches);
+    Ok(match subject_of(alloc, matches)? {
+        Some(Subject::Certificate(inputs)) => Some(Task::Explain { inputs, mode }),
+        Some(Subject::Groups(inputs, measure)) => Some(Task::ExplainGroups { inputs, measure }),
+        None => None,
+    })
+}
+
+/// What `explain`, `page` and `margins` are about: groups where `--groups` stands in the certificate's place, and else a
+/// certificate.
+fn subject_of(alloc: Global, matches: &ArgMatches<'_>) -> Result<Option<Subject>, UsageFault>
+    ensures subject { IfOk result (λ s. option_map about s ≡ about_in (rows_of (found_of matches.now))) }
+    ensures refused { IfErr result (IsRefusalAbout (about_in (rows_of (found_of matches.now)))) }
+{
+    if is_given(matches, "groups") {
+        groups_named(alloc, matches)
+    } else {
+        certificate_named(alloc, matches)
+    }
+}
+
+/// The files and the measure, where nothing that belongs to a certificate stands beside `--groups`.
+fn groups_named(alloc: Global, matches: &ArgMatches<'_>) -> Result<Option<Subject>, UsageFault>
+    ensures subject { IfOk result (λ s. option_map about s ≡ about_groups (rows_of (found_of matches.now))) }
+    ensures refused { IfErr result (IsRefusalAbout (about_groups (rows_of (found_of matches.now)))) }
+{
+    if has_text(matches, "certificate") {
+        return Err(words_refused(
+            alloc,
+            "error: --groups stands in the certificate's place: give one of the two\n",
+        ));
+    }
+    if has_conditions(matches) {
+        return Err(words_refused(
+            alloc,
+            "error: --stable, --no-exhaustive and --cover are about prices, and don't go with --groups\n",
+        ));
+    }
+    let Some(inputs) = outcome_inputs_of(alloc, matches)? else {
+        return Ok(None);
+    };
+    match measure_of(matches) {
+        Some(measure) => Ok(Some(Subject::Groups(inputs, measure))),
+        None => Err(no_measure(alloc)),
+    }
+}
+
+/// The files with the certificate, where there is one and no measure beside it.
+fn certificate_named(alloc: Global, matches: &ArgMatches<'_>) -> Result<Option<Subject>, UsageFault>
+    ensures subject { IfOk result (λ s. option_map about s ≡ about_certificate (rows_of (found_of matches.now))) }
+    ensures refused { IfErr result (IsRefusalAbout (about_certificate (rows_of (found_of matches.now)))) }
+{
+    if has_text(matches, "satisfaction") {
+        return Err(words_refused(alloc, "error: --satisfaction needs --groups\n"));
+    }
+    if !has_text(matches, "certificate") {
+        return Err(words_refused(
+            alloc,
+            "error: a certificate is needed, or --groups in its place\n",
+        ));
+    }
     match inputs_of(alloc, matches, "certificate")? {
-        Some(inputs) => Ok(Some(Task::Explain { inputs, mode })),
+        Some(inputs) => Ok(Some(Subject::Certificate(inputs))),
         None => Ok(None),
     }
+}
+
+/// Whether the words ask for a condition on prices or leave one out.
+fn has_conditions(matches: &ArgMatches<'_>) -> bool
+    ensures { result ≡ names_conditions (rows_of (found_of matches.now)) }
+{
+    is_given(matches, "stable") || is_given(matches, "no-exhaustive") || is_given(matches, "cover")
+}
+
+/// Whether the words give a text for the argument.
+fn has_text(matches: &ArgMatches<'_>, id: &str) -> bool
+    ensures { result ≡ is_named (rows_of (found_of matches.now)) id.now }
+{
+    matches.get_str(id).is_some()
 }
 
 fn page_task(alloc: Global, matches: &ArgMatches<'_>) -> Result<Option<Task>, UsageFault>
@@ -260,16 +474,30 @@ fn page_task(alloc: Global, matches: &ArgMatches<'_>) -> Result<Option<Task>, Us
     ensures refused { IfErr result (IsRefusalOf (asked_by (codes "page") (rows_of (found_of matches.now)))) }
 {
     let mode = mode_of(matches);
-    let Some(inputs) = inputs_of(alloc, matches, "certificate")? else {
+    let Some(subject) = subject_of(alloc, matches)? else {
         return Ok(None);
     };
     match language_of(matches) {
-        Some(language) => Ok(Some(Task::Page {
+        Some(language) => Ok(Some(page_about(subject, mode, language))),
+        None => Err(no_language(alloc)),
+    }
+}
+
+/// A page about a certificate, or about groups.
+fn page_about(subject: Subject, mode: Mode, language: Language) -> Task
+    ensures { asked result ≡ paged mode (Some language) (about subject) }
+{
+    match subject {
+        Subject::Certificate(inputs) => Task::Page {
             inputs,
             mode,
             language,
-        })),
-        None => Err(no_language(alloc)),
+        },
+        Subject::Groups(inputs, measure) => Task::GroupsPage {
+            inputs,
+            measure,
+            language,
+        },
     }
 }
 
@@ -287,20 +515,21 @@ fn language_of(matches: &ArgMatches<'_>) -> Option<Language>
 fn no_language(alloc: Global) -> UsageFault
     ensures { (result ≡ UsageFault.Memory) ⊎ FitsKind InvalidValue result }
 {
-    let words = "error: the language of a page has to be en, pl, de or fr\n";
-    match String::from_str(alloc, words) {
-        Ok(text) => UsageFault::Usage(text),
-        Err(_) => UsageFault::Memory,
-    }
+    words_refused(
+        alloc,
+        "error: the language of a page has to be en, pl, de or fr\n",
+    )
 }
 
-fn margins_task(alloc: Global, matches: &ArgMatches<'_>) -> Result<Option<Task>, AllocError>
-    ensures { IfOk result (λ t. option_map asked t ≡ asked_by (codes "margins") (rows_of (found_of matches.now))) }
+fn margins_task(alloc: Global, matches: &ArgMatches<'_>) -> Result<Option<Task>, UsageFault>
+    ensures task { IfOk result (λ t. option_map asked t ≡ asked_by (codes "margins") (rows_of (found_of matches.now))) }
+    ensures refused { IfErr result (IsRefusalOf (asked_by (codes "margins") (rows_of (found_of matches.now)))) }
 {
-    match inputs_of(alloc, matches, "certificate")? {
-        Some(inputs) => Ok(Some(Task::Margins(inputs))),
-        None => Ok(None),
-    }
+    Ok(match subject_of(alloc, matches)? {
+        Some(Subject::Certificate(inputs)) => Some(Task::Margins(inputs)),
+        Some(Subject::Groups(inputs, measure)) => Some(Task::GroupMargins { inputs, measure }),
+        None => None,
+    })
 }
 
 fn tidy_task(alloc: Global, matches: &ArgMatches<'_>) -> Result<Option<Task>, AllocError>
@@ -315,10 +544,32 @@ fn tidy_task(alloc: Global, matches: &ArgMatches<'_>) -> Result<Option<Task>, Al
 fn folder_task(alloc: Global, matches: &ArgMatches<'_>) -> Result<Option<Task>, AllocError>
     ensures { IfOk result (λ t. option_map asked t ≡ asked_by (codes "folder") (rows_of (found_of matches.now))) }
 {
+    let json = is_given(matches, "json");
     match text_of(alloc, matches, "folder")? {
         Some(folder) => Ok(Some(Task::Folder {
             folder,
             mode: mode_of(matches),
+            json,
+        })),
+        None => Ok(None),
+    }
+}
+
+/// The files that the words name, without a certificate.
+fn outcome_inputs_of(
+    alloc: Global,
+    matches: &ArgMatches<'_>,
+) -> Result<Option<OutcomeInputs>, AllocError>
+    ensures { IfOk result (λ inputs. option_map outcome_paths inputs ≡ outcome_paths_in (rows_of (found_of matches.now))) }
+{
+    let election = text_of(alloc, matches, "election")?;
+    let outcome = text_of(alloc, matches, "outcome")?;
+    let json = is_given(matches, "json");
+    match election {
+        Some(election) => Ok(Some(OutcomeInputs {
+            election,
+            outcome,
+            json,
         })),
         None => Ok(None),
     }
@@ -335,11 +586,13 @@ fn inputs_of(
     let election = text_of(alloc, matches, "election")?;
     let certificate = text_of(alloc, matches, certificate)?;
     let outcome = text_of(alloc, matches, "outcome")?;
+    let json = is_given(matches, "json");
     match (election, certificate) {
         (Some(election), Some(certificate)) => Ok(Some(Inputs {
             election,
             certificate,
             outcome,
+            json,
         })),
         _ => Ok(None),
     }

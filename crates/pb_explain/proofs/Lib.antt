@@ -4,3 +4,4 @@ mod Nearer
 mod Reached
 mod Roles
 pub mod MarginTable
+mod GroupMargins

@@ -14,7 +14,8 @@ use Rattle.std.proofs.lemmas.Nat.Bits.{bit_at-zero, bit_at_or}
 use Rattle.pb_election.specs.Instance.{Instance, IsSet, approves, ballot_of, projects}
 use Rattle.pb_election.specs.Outcome.{has}
 use Rattle.pb_cohesion.proofs.Firsts.{range-next}
-use Rattle.pb_price.proofs.Ballots.{among-fresh, among-hit, among-miss, high, low}
+use Rattle.pb_cohesion.proofs.Fronts.{among-fresh, among-hit, among-miss}
+use Rattle.pb_price.proofs.Ballots.{high, low}
 use Rattle.pb_explain.specs.Reached.{AreCounted, AreReached, AreSupporters, GetWord, IsWordOf, among, bit_if, funded_with_bit, share_a_voter}
 
 -- the words of projects with one more project of a ballot

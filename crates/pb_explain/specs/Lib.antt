@@ -8,3 +8,5 @@ pub mod Reached
 pub mod GroupLines
 pub mod RefutationTable
 pub mod MarginTable
+pub mod ShownGroup
+pub mod GroupMargins

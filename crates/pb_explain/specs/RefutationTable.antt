@@ -44,8 +44,19 @@ unfoldable pub budgets_told : ℕ → ℕ → Text
 budgets_told counted taken =
     codes "the weights count at most " ++ decimal counted ++ codes " voter budgets, and take " ++ decimal taken
 
+-- the same where stable prices are asked about
+unfoldable pub stable_budgets_told : ℕ → ℕ → ℕ → Text
+stable_budgets_told stable counted taken =
+    codes "the weights count at most " ++ decimal stable ++ codes " voter budgets if prices are stable, and take "
+    ++ decimal taken ++ codes "; for all prices they count at most " ++ decimal counted
+
+abbrev pub budgets_line : Option ℕ → ℕ → ℕ → Text
+budgets_line None counted taken = opening (codes "U2          ") (nat_le counted taken) ++ budgets_told counted taken
+budgets_line (Some stable) counted taken =
+    opening (codes "U2          ") (nat_le stable taken) ++ stable_budgets_told stable counted taken
+
 abbrev pub u2_line : RefutationFindings → Text
-u2_line f = opening (codes "U2          ") (nat_le f.counted f.taken) ++ budgets_told f.counted f.taken
+u2_line f = budgets_line f.counted_stable f.counted f.taken
 
 -- U3: a yes also where the two are alike, if Cover has a weight
 abbrev pub costs_differ : ℕ → ℕ → ℕ → Bool

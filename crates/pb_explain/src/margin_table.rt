@@ -100,16 +100,16 @@ fn flag<'a>(funded: bool) -> &'a str
     if funded { "1" } else { "0" }
 }
 
-// The digits of an amount.
-fn amount<'a>(buffer: &'a mut Buffer, amount: u128) -> &'a str
+/// The digits of an amount.
+pub(crate) fn amount<'a>(buffer: &'a mut Buffer, amount: u128) -> &'a str
     ensures text { result.now ≡ decimal amount }
     ensures plain { list_any is_control result.now ≡ false }
 {
     buffer.format(amount)
 }
 
-// The digits of an amount that may be negative, behind its sign.
-fn balance<'a>(buffer: &'a mut Buffer, balance: i128) -> &'a str
+/// The digits of an amount that may be negative, behind its sign.
+pub(crate) fn balance<'a>(buffer: &'a mut Buffer, balance: i128) -> &'a str
     ensures text { result.now ≡ signed_decimal balance }
     ensures plain { list_any is_control result.now ≡ false }
 {

@@ -102,9 +102,15 @@ fn u2_line(alloc: Global, findings: &RefutationFindings) -> Result<String, Alloc
     ensures { IfOk result (λ line. string_bytes line ≡ spec.u2_line findings.now) }
 {
     let (counted, taken) = (findings.counted, findings.taken);
-    let opening = Opening("U2          ", counted <= taken);
+    let Some(stable) = findings.counted_stable else {
+        let opening = Opening("U2          ", counted <= taken);
+        return format!(in alloc;
+            "{opening}the weights count at most {counted} voter budgets, and take {taken}"
+        );
+    };
+    let opening = Opening("U2          ", stable <= taken);
     format!(in alloc;
-        "{opening}the weights count at most {counted} voter budgets, and take {taken}"
+        "{opening}the weights count at most {stable} voter budgets if prices are stable, and take {taken}; for all prices they count at most {counted}"
     )
 }
 

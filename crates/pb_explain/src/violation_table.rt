@@ -110,7 +110,8 @@ fn v4_line(
     )
 }
 
-fn measure_words<'a>(measure: Measure) -> &'a str
+/// By which measure.
+pub(crate) fn measure_words<'a>(measure: Measure) -> &'a str
     ensures { result.now ≡ spec.measure_words measure }
 {
     match measure {
@@ -119,9 +120,9 @@ fn measure_words<'a>(measure: Measure) -> &'a str
     }
 }
 
-// What projects are worth by a measure.
+/// What projects are worth by a measure.
 #[derive(Clone, Copy)]
-struct Worth(Measure, u128);
+pub(crate) struct Worth(pub(crate) Measure, pub(crate) u128);
 
 impl fmt::Display for Worth {
     ghost use Rattle.std.specs.Prelude.{Some};

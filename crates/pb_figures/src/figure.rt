@@ -52,6 +52,12 @@ pub enum Figure {
     PaidAtLeast,
     /// What they count as paid at most, and left at most.
     PaidAtMost,
+    /// The part of the limit that falls to the group in this row of the groups that are told, which are numbered from 1.
+    Part(u32),
+    /// What that part would have to come to.
+    Need(u32),
+    /// What the member of that group got that got most. Nothing where projects are counted.
+    Most(u32),
 }
 
 /// The conditions whose findings show two sums.

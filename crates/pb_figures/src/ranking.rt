@@ -2,8 +2,9 @@
 ghost use Rattle.std.specs.Int.{abs_diff};
 ghost use Rattle.std.specs.Prelude.{◌≡◌, ◌++◌, ◌∷◌, [], not, if◌then◌else◌, IfOk, OnOk};
 ghost use Rattle.pb_figures.specs.Ranking as spec;
-ghost use Rattle.pb_figures.specs.Ranking.{AreRanked, by_missing, by_size, short};
+ghost use Rattle.pb_figures.specs.Ranking.{AreRanked, by_group, by_missing, by_size, short};
 
+use pb_cohesion::GroupFigures;
 use pb_price::ProjectMargins;
 use std::alloc::{AllocError, Global};
 
@@ -40,6 +41,43 @@ pub fn wrongly_paid_first(
     }
     order.sort_unstable();
     Ok(order)
+}
+
+/// The rows of these groups, which are from 1: those first that fall short, of these the largest, and of two that are
+/// alike the lower row; behind them the others. Each stands behind what its group is short of the largest number, by which
+/// they are in order. An error means out of memory.
+pub fn short_first(alloc: Global, groups: &[GroupFigures]) -> Result<Vec<(u32, usize)>, AllocError>
+    ensures { IfOk result (λ ranked. AreRanked by_group (spec.groups groups.now) ranked.items) }
+{
+    let mut order = Vec::new(alloc);
+    for (k, group) in groups.iter().enumerate() {
+        rank_group(&mut order, group, k + 1)?;
+    }
+    order.sort_unstable();
+    Ok(order)
+}
+
+// Adds a group with this row.
+fn rank_group(
+    ranked: &mut Vec<(u32, usize)>,
+    group: &GroupFigures,
+    row: usize,
+) -> Result<(), AllocError>
+    ensures { OnOk result (ranked.new.items ≡ ranked.old.items ++ (spec.group_rank group.now, row) ∷ []) }
+{
+    ranked.push((group_rank(group), row))?;
+    Ok(())
+}
+
+// What comes before a group: more where it is smaller, and most where it doesn't fall short.
+fn group_rank(group: &GroupFigures) -> u32
+    ensures { result ≡ spec.group_rank group.now }
+{
+    if group.falls_short {
+        u32::MAX - group.voters
+    } else {
+        u32::MAX
+    }
 }
 
 // Adds a project with this number, unless it is funded.

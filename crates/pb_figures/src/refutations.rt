@@ -23,13 +23,16 @@ pub struct RefutationFigures {
     pub funded: u128,
 }
 
-/// The answer on a refutation.
-pub fn refutation_headline(verdict: RefutationVerdict) -> Headline
-    ensures { result ≡ spec.refutation_headline verdict }
+/// The answer on a refutation, by whether stable prices were asked about.
+pub fn refutation_headline(verdict: RefutationVerdict, stable: bool) -> Headline
+    ensures { result ≡ spec.refutation_headline stable verdict }
 {
     match verdict {
         RefutationVerdict::Unpriceable => Headline::Unpriceable,
         RefutationVerdict::UnpriceableUnderCover => Headline::UnpriceableUnderCover,
+        RefutationVerdict::UnpriceableStable => Headline::UnpriceableStable,
+        RefutationVerdict::UnpriceableStableUnderCover => Headline::UnpriceableStableUnderCover,
+        RefutationVerdict::Failed(_) if stable => Headline::NotRefutedStable,
         RefutationVerdict::Failed(_) => Headline::NotRefuted,
     }
 }
@@ -51,6 +54,42 @@ impl RefutationFigures {
             Figure::PaidAtMost => Balance::of(self.findings.at_most),
             _ => Balance::NOTHING,
         }
+    }
+
+    /// Whether stable prices were asked about.
+    pub fn asks_stable(&self) -> bool
+        ensures { result ≡ spec.asks_stable self.now }
+    {
+        self.findings.counted_stable.is_some()
+    }
+
+    /// Whether what is told is of stable prices alone. These were asked about, and the weights don't refute all prices.
+    pub fn tells_of_stable(&self) -> bool
+        ensures { result ≡ spec.tells_of_stable self.now }
+    {
+        match self.verdict {
+            RefutationVerdict::Unpriceable | RefutationVerdict::UnpriceableUnderCover => false,
+            RefutationVerdict::UnpriceableStable
+            | RefutationVerdict::UnpriceableStableUnderCover
+            | RefutationVerdict::Failed(_) => self.asks_stable(),
+        }
+    }
+
+    /// How often the weights count the budgets of all voters, at most, for the prices that are told of.
+    pub fn counted(&self) -> u128
+        ensures { result ≡ spec.counted self.now }
+    {
+        match self.findings.counted_stable {
+            Some(counted) if self.tells_of_stable() => counted,
+            _ => self.findings.counted,
+        }
+    }
+
+    /// Whether U2 holds, for those prices.
+    pub fn budgets_suffice(&self) -> bool
+        ensures { result ≡ spec.budgets_suffice self.now }
+    {
+        self.counted() <= self.findings.taken
     }
 
     fn cost(&self, j: u32) -> Balance

@@ -9,6 +9,7 @@ use crate::amounts::{Balance, Style};
 use crate::extremes::Extremes;
 use crate::figure::{Compared, Figure};
 use crate::refutations::{RefutationFigures, refutation_headline};
+use crate::short_groups::{ShortFigures, groups_headline};
 use pb_certificate::{Measure, Violation};
 use pb_cohesion::{ViolationFindings, ViolationVerdict};
 use pb_price::{Finding, Findings, Margins, Mode, ProjectMargins, Verdict};
@@ -24,12 +25,13 @@ pub struct Told {
     pub found: CertificateFigures,
 }
 
-/// What was found of a certificate.
+/// What was found of a certificate, or of the groups of an election without one.
 #[derive(Drop)]
 pub enum CertificateFigures {
     Prices(PriceFigures),
     Violation(ViolationFigures),
     Refutation(RefutationFigures),
+    Groups(ShortFigures),
 }
 
 /// What was found of prices.
@@ -65,7 +67,11 @@ impl Told {
                 self.mode,
             ),
             CertificateFigures::Violation(figures) => violation_headline(figures.verdict),
-            CertificateFigures::Refutation(figures) => refutation_headline(figures.verdict),
+            CertificateFigures::Refutation(figures) => refutation_headline(
+                figures.verdict,
+                figures.asks_stable(),
+            ),
+            CertificateFigures::Groups(figures) => groups_headline(figures.verdict()),
         }
     }
 
@@ -77,6 +83,7 @@ impl Told {
             CertificateFigures::Prices(figures) => figures.findings.grains_per_unit,
             CertificateFigures::Violation(figures) => figures.grains_per_unit(),
             CertificateFigures::Refutation(_) => RefutationFigures::GRAINS_PER_UNIT,
+            CertificateFigures::Groups(figures) => figures.grains_per_unit(),
         }
     }
 
@@ -88,6 +95,7 @@ impl Told {
             CertificateFigures::Prices(figures) => figures.amount_of(figure),
             CertificateFigures::Violation(figures) => figures.amount_of(figure),
             CertificateFigures::Refutation(figures) => figures.amount_of(figure),
+            CertificateFigures::Groups(figures) => figures.amount_of(figure),
         }
     }
 }
@@ -139,6 +147,7 @@ impl PriceFigures {
             Figure::Demand | Figure::Share | Figure::ShareOff | Figure::Gets | Figure::Worth =>
                 Balance::NOTHING,
             Figure::PaidAtLeast | Figure::PaidAtMost => Balance::NOTHING,
+            Figure::Part(_) | Figure::Need(_) | Figure::Most(_) => Balance::NOTHING,
         }
     }
 

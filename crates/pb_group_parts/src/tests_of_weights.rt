@@ -1,11 +1,11 @@
 //! The tests of a refutation, one by one.
 use crate::tests_of_group::{push_count, words_of};
 use pb_case::{Case, Fillings};
-use pb_cohesion::{RefutationFailure, RefutationFindings, RefutationVerdict};
+use pb_cohesion::{RefutationFailure, RefutationVerdict};
 use pb_figures::{Figure, RefutationFigures};
 use pb_markup::{Page, Tag};
 use pb_tables::{State, push_name};
-use pb_words::Sentence;
+use pb_words::{Sentence, StableWeights};
 
 // A test of a refutation.
 #[derive(Clone, Copy)]
@@ -42,18 +42,22 @@ impl Test {
         }
     }
 
-    fn asks(self) -> Sentence {
+    // What it asks, of all prices or of stable ones alone.
+    fn asks(self, of_stable: bool) -> Sentence {
         match self {
+            Test::U1 if of_stable => Sentence::OfStableWeights(StableWeights::AsksU1),
             Test::U1 => Sentence::AsksU1,
+            Test::U2 if of_stable => Sentence::OfStableWeights(StableWeights::AsksU2),
             Test::U2 => Sentence::AsksU2,
             Test::U3 => Sentence::AsksU3,
         }
     }
 
-    fn holds(self, findings: &RefutationFindings) -> bool {
+    fn holds(self, figures: &RefutationFigures) -> bool {
+        let findings = &figures.findings;
         match self {
             Test::U1 => findings.misplaced.count == 0,
-            Test::U2 => findings.counted <= findings.taken,
+            Test::U2 => figures.budgets_suffice(),
             Test::U3 if findings.cover == 0 => findings.at_most < findings.at_least,
             Test::U3 => findings.at_most <= findings.at_least,
         }
@@ -75,13 +79,16 @@ pub(crate) fn push_tests(page: &mut Page, case: &Case<'_>, figures: &RefutationF
 /// Adds what the first test of a refutation that fails comes to, where one does.
 pub fn push_failed_test_of_weights(page: &mut Page, case: &Case<'_>, figures: &RefutationFigures) {
     match figures.verdict {
-        RefutationVerdict::Unpriceable | RefutationVerdict::UnpriceableUnderCover => {}
+        RefutationVerdict::Unpriceable
+        | RefutationVerdict::UnpriceableUnderCover
+        | RefutationVerdict::UnpriceableStable
+        | RefutationVerdict::UnpriceableStableUnderCover => {}
         RefutationVerdict::Failed(failure) => push_found(page, case, figures, Test::of(failure)),
     }
 }
 
 fn push_test(page: &mut Page, case: &Case<'_>, figures: &RefutationFigures, test: Test) {
-    let state = State::of(test.holds(&figures.findings));
+    let state = State::of(test.holds(figures));
     page.open(Tag::Li);
     push_name(
         page,
@@ -94,7 +101,8 @@ fn push_test(page: &mut Page, case: &Case<'_>, figures: &RefutationFigures, test
     page.open(Tag::P);
     push_found(page, case, figures, test);
     page.close();
-    page.element_class(Tag::P, "soft", case.words.say(test.asks()));
+    let asks = test.asks(figures.tells_of_stable());
+    page.element_class(Tag::P, "soft", case.words.say(asks));
     page.close();
     page.close();
 }
@@ -114,11 +122,7 @@ fn push_u1(page: &mut Page, case: &Case<'_>, figures: &RefutationFigures) {
     let Some(project) = misplaced.first else {
         return case.say(page, Sentence::FoundU1, &none);
     };
-    let sentence = if case.is_funded(project) {
-        Sentence::BrokenU1Funded
-    } else {
-        Sentence::BrokenU1Unfunded
-    };
+    let sentence = misplaced_row(case.is_funded(project), figures.tells_of_stable());
     let fillings = none.and_label("project", case.project(project));
     case.say(page, sentence, &fillings);
     let count = u64::from(misplaced.count);
@@ -126,20 +130,30 @@ fn push_u1(page: &mut Page, case: &Case<'_>, figures: &RefutationFigures) {
     push_count(page, case, sentence, count);
 }
 
+// What a row counts that isn't one for its project.
+fn misplaced_row(is_funded: bool, of_stable: bool) -> Sentence {
+    match (is_funded, of_stable) {
+        (true, true) => Sentence::OfStableWeights(StableWeights::BrokenU1Funded),
+        (true, false) => Sentence::BrokenU1Funded,
+        (false, _) => Sentence::BrokenU1Unfunded,
+    }
+}
+
 fn push_u2(page: &mut Page, case: &Case<'_>, figures: &RefutationFigures) {
-    let sentence = if Test::U2.holds(&figures.findings) {
-        Sentence::FoundU2
-    } else {
-        Sentence::BrokenU2
+    let sentence = match (Test::U2.holds(figures), figures.tells_of_stable()) {
+        (true, true) => Sentence::OfStableWeights(StableWeights::FoundU2),
+        (true, false) => Sentence::FoundU2,
+        (false, true) => Sentence::OfStableWeights(StableWeights::BrokenU2),
+        (false, false) => Sentence::BrokenU2,
     };
     let fillings = Fillings::none(case.words.alloc)
-        .and_whole("counted", figures.findings.counted)
+        .and_whole("counted", figures.counted())
         .and_whole("taken", figures.findings.taken);
     case.say(page, sentence, &fillings);
 }
 
 fn push_u3(page: &mut Page, case: &Case<'_>, figures: &RefutationFigures) {
-    let sentence = if !Test::U3.holds(&figures.findings) {
+    let sentence = if !Test::U3.holds(figures) {
         Sentence::BrokenU3
     } else if figures.findings.cover == 0 {
         Sentence::FoundU3

@@ -7,7 +7,7 @@ use pb_tables::{
     COST, Column, ColumnKind, MOST_ROWS, STATE, begin_cell, begin_row, begin_table, end_table,
     push_left_out, push_money_tile, push_number_tile, push_state,
 };
-use pb_words::{Headline, Sentence};
+use pb_words::{Headline, Sentence, StableWeights};
 use std::alloc::AllocError;
 
 const COLUMNS: [Column; 5] = [
@@ -50,7 +50,7 @@ pub(crate) fn push_weights(page: &mut Page, case: &Case<'_>, figures: &Refutatio
 
 fn how_weights(case: &Case<'_>) -> Sentence {
     match case.told.headline() {
-        Headline::NotRefuted => Sentence::HowWeightsFail,
+        Headline::NotRefuted | Headline::NotRefutedStable => Sentence::HowWeightsFail,
         _ => Sentence::HowWeights,
     }
 }
@@ -112,6 +112,9 @@ fn what_counts(figures: &RefutationFigures, j: u32) -> Sentence {
     match role_of(figures, j) {
         Some(Role::Least) => Sentence::CountsLeast,
         Some(Role::Most) => Sentence::CountsMost,
+        Some(Role::Left) | None if figures.tells_of_stable() => {
+            Sentence::OfStableWeights(StableWeights::CountsOffer)
+        }
         Some(Role::Left) | None => Sentence::CountsLeft,
     }
 }

@@ -80,7 +80,7 @@ pub answered : (m : Mode) (l : Language) (election : Turn) (outcome : FileTurn) 
     (d : Delivery) (o : Option Delivery) (f : Delivery) (e : Instance) (w : List Bool) (t : Told) (a : Answer Status)
     → election (Some d) → StatesElection d (Ok e) → outcome (Some o)
     → AuditsOutcome e o (Ok w) → certificate (Some f) → TellsCertificate m e w f (Ok t) → t.style.language ≡ l
-    → RendersTold t (sums_of (files_of d o f)) a → ReadsPage m l election outcome certificate a
+    → RendersTold t (sums_of (files_of d o (Some f))) a → ReadsPage m l election outcome certificate a
 answered m l election outcome certificate d o f e w t a delivered given loaded taken read tells language renders =
     record {
       of_election = d;

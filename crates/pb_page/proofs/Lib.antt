@@ -1,4 +1,5 @@
 pub mod Boxes
+pub mod Groups
 pub mod InTurn
 pub mod Pages
 pub mod Tells

@@ -50,7 +50,7 @@ outcome-refused m l election outcome certificate e r given taken = record {
         subst (λ (o : Stated (List Bool)). IfOk o (λ w. StatesCertificate e certificate (Err r))) taken.is tt;
   };
   out =
-      subst (λ (o : Stated (List Bool)). PageOnOutcome m l (files_of election outcome certificate) e o (Err r) (answer_of (refused r))) taken.is refl;
+      subst (λ (o : Stated (List Bool)). PageOnOutcome m l (files_of election outcome (Some certificate)) e o (Err r) (answer_of (refused r))) taken.is refl;
 }
 
 -- the certificate is refused
@@ -69,7 +69,7 @@ certificate-refused m l election outcome certificate e w r given taken states = 
         subst (λ (o : Stated (List Bool)). IfOk o (λ marks. StatesCertificate e certificate (Err r))) taken.is states;
   };
   out =
-      subst (λ (o : Stated (List Bool)). PageOnOutcome m l (files_of election outcome certificate) e o (Err r) (answer_of (refused r))) taken.is refl;
+      subst (λ (o : Stated (List Bool)). PageOnOutcome m l (files_of election outcome (Some certificate)) e o (Err r) (answer_of (refused r))) taken.is refl;
 }
 
 -- the status of what is told is that of `explain`
@@ -80,14 +80,14 @@ told-status m e w (OfPrices p) t tells =
 told-status m e w (OfViolation v) t tells =
     ap (λ (f : CertificateFigures). status_of t.mode f) tells.1 ∙ ap violation_status tells.2.verdict
 told-status m e w (OfRefutation r) t tells =
-    ap (λ (f : CertificateFigures). status_of t.mode f) tells.1 ∙ ap refutation_status tells.2.verdict
+    ap (λ (f : CertificateFigures). status_of t.mode f) tells.1 ∙ ap refutation_status tells.3.verdict
 
 -- all are accepted
 abbrev pub page-answered : (m : Mode) (l : Language) (election : Delivery) (outcome : Option Delivery)
     (certificate : Delivery) (e : Instance) (w : List Bool) (t : Told) (a : Answer Status)
     → StatesElection election (Ok e) → AuditsOutcome e outcome (Ok w)
     → TellsCertificate m e w certificate (Ok t) → t.style.language ≡ l
-    → RendersTold t (sums_of (files_of election outcome certificate)) a
+    → RendersTold t (sums_of (files_of election outcome (Some certificate))) a
     → AnswersPage m l election outcome certificate a
 page-answered m l election outcome certificate e w t a given taken tells language renders = record {
   e = Ok e;
@@ -100,13 +100,13 @@ page-answered m l election outcome certificate e w t a given taken tells languag
         subst (λ (o : Stated (List Bool)). IfOk o (λ marks. StatesCertificate e certificate (Ok tells.0))) taken.is
         tells.1;
   };
-  out = subst (λ (o : Stated (List Bool)). PageOnOutcome m l (files_of election outcome certificate) e o (Ok tells.0) a) taken.is page;
+  out = subst (λ (o : Stated (List Bool)). PageOnOutcome m l (files_of election outcome (Some certificate)) e o (Ok tells.0) a) taken.is page;
 }
   where
     ends : a.status ≡ certificate_status m e w tells.0
     ends = renders.status ∙ told-status m e w tells.0 t tells.2
 
-    page : IsPage m l (files_of election outcome certificate) e w tells.0 a
+    page : IsPage m l (files_of election outcome (Some certificate)) e w tells.0 a
     page = record {
       told = t;
       pieces = renders.pieces;

@@ -1,12 +1,13 @@
 -- What a page answers, by what its inputs state.
-use Rattle.std.specs.Prelude.{◌≡◌, ℕ, Bool, List, [], ◌∷◌, ◌++◌, Option, Ok, Err, map, string_bytes}
+use Rattle.std.specs.Prelude.{◌≡◌, ℕ, Bool, List, [], ◌∷◌, ◌++◌, Option, Some, Ok, Err, map, string_bytes}
 use Rattle.pb_records.specs.Loading.{Delivery}
 use Rattle.pb_election.specs.Instance.{Instance, all_projects, cost_of, voters}
 use Rattle.pb_certificate.specs.Prices.{Prices}
 use Rattle.pb_certificate.specs.Refutations.{Weights}
 use Rattle.pb_certificate.specs.declared.violations.measure.Measure.{Measure}
-use Rattle.pb_cohesion.specs.FirstU.{FirstU, refutation_verdict_of}
+use Rattle.pb_cohesion.specs.FirstU.{refutation_verdict}
 use Rattle.pb_cohesion.specs.FirstV.{FirstV, violation_verdict_of}
+use Rattle.pb_cohesion.specs.Outcome.{total}
 use Rattle.pb_cohesion.specs.RefutationFindings.{refutation_findings}
 use Rattle.pb_cohesion.specs.Satisfactions.{worth_by}
 use Rattle.pb_cohesion.specs.ViolationFindings.{violation_findings}
@@ -54,31 +55,33 @@ pub record TellsGroup (e : Instance) (w : List Bool) (v : Measure × List ℕ ×
   pub measure : figures.violation.measure ≡ v.0
   pub costs : figures.costs.items ≡ map (cost_of e) (all_projects e)
   pub limit : figures.limit ≡ e.limit
+  pub total : figures.funded ≡ total e w
   pub voters : figures.voters ≡ voters e
 
 abbrev pub TellsViolation : Instance → List Bool → Measure × List ℕ × List ℕ → Told → Type 0
 TellsViolation e w v t =
     (figures : ViolationFigures) × (t.found ≡ found.Violation figures) × TellsGroup e w v (string_bytes t.line) figures
 
--- what it tells of weights: that line, and the figures
-pub record TellsWeights (e : Instance) (w : List Bool) (r : Weights) (l : List ℕ) (figures : RefutationFigures)
-    : Type 0 where
-  pub line : ShowsLine (refutation_line e (refutation_verdict_of r.cover (FirstU e w r))) l
-  pub verdict : figures.verdict ≡ refutation_verdict_of r.cover (FirstU e w r)
-  pub findings : figures.findings ≡ refutation_findings e w r
+-- what it tells of weights, by whether stable prices are asked about: that line, and the figures
+pub record TellsWeights (stable : Bool) (e : Instance) (w : List Bool) (r : Weights) (l : List ℕ)
+    (figures : RefutationFigures) : Type 0 where
+  pub line : ShowsLine (refutation_line e (refutation_verdict stable e w r)) l
+  pub verdict : figures.verdict ≡ refutation_verdict stable e w r
+  pub findings : figures.findings ≡ refutation_findings stable e w r
   pub weights : figures.refutation ≡ r
   pub costs : figures.costs.items ≡ map (cost_of e) (all_projects e)
   pub limit : figures.limit ≡ e.limit
+  pub total : figures.funded ≡ total e w
 
-abbrev pub TellsRefutation : Instance → List Bool → Weights → Told → Type 0
-TellsRefutation e w r t =
-    (figures : RefutationFigures) × (t.found ≡ found.Refutation figures)
-    × TellsWeights e w r (string_bytes t.line) figures
+abbrev pub TellsRefutation : Mode → Instance → List Bool → Weights → Told → Type 0
+TellsRefutation m e w r t =
+    (figures : RefutationFigures) × (t.found ≡ found.Refutation figures) × (t.mode ≡ m)
+    × TellsWeights m.stable e w r (string_bytes t.line) figures
 
 abbrev pub Tells : Mode → Instance → List Bool → Certificate → Told → Type 0
 Tells m e w (OfPrices p) t = TellsPrices m e w p t
 Tells m e w (OfViolation v) t = TellsViolation e w v t
-Tells m e w (OfRefutation r) t = TellsRefutation e w r t
+Tells m e w (OfRefutation r) t = TellsRefutation m e w r t
 
 -- the answer in a sentence, and the line that the program prints, as the page has them
 abbrev pub headline_box : List Piece
@@ -131,4 +134,4 @@ pub record AnswersPage (m : Mode) (language : Language) (election : Delivery) (o
   pub o : Option (Stated (List Bool))
   pub c : Stated Certificate
   pub given : FilesState StatesCertificate election outcome certificate e o c
-  pub out : PageOf m language (files_of election outcome certificate) e o c a
+  pub out : PageOf m language (files_of election outcome (Some certificate)) e o c a

@@ -1,4 +1,5 @@
 pub mod Answers
+pub mod Groups
 pub mod InTurn
 pub mod Sums
 pub mod Taken

@@ -24,9 +24,10 @@ bytes_of (Bytes bytes) = bytes
 bytes_of Read = []
 bytes_of TooLong = []
 
--- the files that a page is about, in its order: the election, the outcome file where one is given, the certificate
-abbrev pub files_of : Delivery → Option Delivery → Delivery → List Delivery
-files_of election outcome certificate = election ∷ (option_to_list outcome ++ certificate ∷ [])
+-- the files that a page is about, in its order: the election, the outcome file where one is given, the certificate where
+-- it is about one
+abbrev pub files_of : Delivery → Option Delivery → Option Delivery → List Delivery
+files_of election outcome certificate = election ∷ (option_to_list outcome ++ option_to_list certificate)
 
 abbrev pub sums_of : List Delivery → List (List ℕ)
 sums_of files = map (λ file. sum_text (bytes_of file)) files

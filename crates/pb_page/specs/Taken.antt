@@ -1,6 +1,6 @@
 -- What the values stand for that the code makes of a certificate on the way to a page. What a page answers is said
 -- without them, in `Answers`.
-use Rattle.std.specs.Prelude.{◌≡◌, ℕ, Bool, List, [], ◌∷◌, ◌++◌, Ok, Err, Some, map, option_to_list, string_bytes}
+use Rattle.std.specs.Prelude.{◌≡◌, ℕ, Bool, List, ◌∷◌, ◌++◌, Ok, Err, Some, map, option_to_list, string_bytes}
 use Rattle.pb_records.specs.Loading.{Delivery}
 use Rattle.pb_election.specs.Instance.{Instance}
 use Rattle.pb_certificate.specs.Prices.{Prices}
@@ -22,7 +22,8 @@ use Rattle.pb_case.specs.declared.case.Files.{Files}
 use Rattle.pb_case.specs.declared.case.InputFile.{InputFile}
 use Rattle.pb_price.specs.First.{verdict_of}
 use Rattle.pb_price.specs.Told.{first_told}
-use Rattle.pb_reply.specs.Replies.{price_status, refutation_status, violation_status}
+use Rattle.pb_reply.specs.Replies.{groups_status, price_status, refutation_status, violation_status}
+use Rattle.pb_figures.specs.Told.{verdict_on_groups}
 use Rattle.pb_figures.specs.declared.told.CertificateFigures.{CertificateFigures}
 use Rattle.pb_figures.specs.declared.told.CertificateFigures.TheVariants as found
 use Rattle.pb_figures.specs.declared.told.PriceFigures.{PriceFigures}
@@ -46,7 +47,7 @@ sum_of file = string_bytes file.sum
 
 abbrev pub sums_shown : Files → List (List ℕ)
 sums_shown files =
-    sum_of files.election ∷ (map sum_of (option_to_list files.outcome) ++ sum_of files.certificate ∷ [])
+    sum_of files.election ∷ (map sum_of (option_to_list files.outcome) ++ map sum_of (option_to_list files.certificate))
 
 -- the turn of an election came, and this is the sum of its file
 pub record GivesElection (t : Turn) (e : Instance) (sum : List ℕ) : Type 0 where
@@ -60,6 +61,7 @@ abbrev pub status_of : Mode → CertificateFigures → Status
 status_of m (found.Prices p) = price_status (verdict_of (first_told m p.findings))
 status_of m (found.Violation v) = violation_status v.verdict
 status_of m (found.Refutation r) = refutation_status r.verdict
+status_of m (found.Groups g) = groups_status (verdict_on_groups g)
 
 -- the page shows what is told, the projects in their orders, and these sums
 pub record RendersTold (t : Told) (sums : List (List ℕ)) (a : Answer Status) : Type 0 where

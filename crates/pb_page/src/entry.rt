@@ -1,5 +1,5 @@
 //! The page on some files.
-ghost use Rattle.std.specs.Prelude.{◌∷◌, ◌++◌, [], IfOk, IfSome, option_map, option_to_list};
+ghost use Rattle.std.specs.Prelude.{◌∷◌, ◌++◌, IfOk, IfSome, option_map, option_to_list};
 ghost use Rattle.pb_reply.specs.Inside.Loaded.{lent};
 ghost use Rattle.pb_reply.specs.Inside.Taking.{settled};
 ghost use Rattle.pb_reply.specs.Replies.{answer_of};
@@ -34,8 +34,9 @@ pub struct PageNames<'a> {
 /// are files in memory, or readers that are loaded when their turn comes, of at most 2^28 bytes each. They are taken in
 /// this order; one after an input that is refused is left alone, and then the text is the line of the refusal. The
 /// status is that of `explain`. Where the first record of the certificate that is not blank is the head of a violation
-/// certificate or of a refutation, it is taken as one, and then the mode counts for nothing; any other is taken as
-/// prices. Without an outcome file the outcome is the election's own. An error means out of memory.
+/// certificate or of a refutation, it is taken as one; any other is taken as prices. Of the mode it counts for a
+/// refutation whether stable prices are asked about, and for a violation nothing. Without an outcome file the outcome is
+/// the election's own. An error means out of memory.
 pub fn page_answer<E: Given, O: Given, C: Given>(
     alloc: Global,
     names: PageNames<'_>,
@@ -86,24 +87,24 @@ fn page_in_turn<E: Given, O: Given, C: Given>(
         names,
         taken,
         lend_file(&given),
-        certificate.lend(),
+        Some(certificate.lend()),
         &funded,
         told,
     )?;
     Ok(page)
 }
 
-// The page on files that were accepted.
-fn page_on(
+/// The page on files that were accepted.
+pub(crate) fn page_on(
     alloc: Global,
     names: PageNames<'_>,
     taken: ElectionTaken,
     outcome: Option<File<'_>>,
-    certificate: File<'_>,
+    certificate: Option<File<'_>>,
     funded: &Outcome,
     told: Told,
 ) -> Result<Answer<Status>, AllocError>
-    ensures { IfOk result (RendersTold told (spec.sum_of taken.file ∷ sums_of (option_to_list (option_map lent outcome.entry) ++ lent certificate.entry ∷ []))) }
+    ensures { IfOk result (RendersTold told (spec.sum_of taken.file ∷ sums_of (option_to_list (option_map lent outcome.entry) ++ option_to_list (option_map lent certificate.entry)))) }
 {
     let files = input_files(alloc, names, taken.file, outcome, certificate)?;
     page_with(alloc, files, taken.labels, &taken.election, funded, told)

@@ -1,5 +1,5 @@
 //! What a page shows of its files, and the files as they are taken.
-ghost use Rattle.std.specs.Prelude.{◌≡◌, ◌∷◌, ◌++◌, [], Err, IfErr, IfOk, map, option_map, option_to_list};
+ghost use Rattle.std.specs.Prelude.{◌≡◌, ◌∷◌, ◌++◌, Err, IfErr, IfOk, map, option_map, option_to_list};
 ghost use Rattle.pb_election.specs.Instance.{Instance};
 ghost use Rattle.pb_reply.specs.Inputs.{StatesElection};
 ghost use Rattle.pb_reply.specs.Inside.Loaded.{lent};
@@ -79,19 +79,19 @@ pub(crate) fn input_files(
     names: PageNames<'_>,
     election: InputFile,
     outcome: Option<File<'_>>,
-    certificate: File<'_>,
+    certificate: Option<File<'_>>,
 ) -> Result<Files, AllocError>
-    ensures { IfOk result (λ shown. sums_shown shown ≡ spec.sum_of election ∷ sums_of (option_to_list (option_map lent outcome.entry) ++ lent certificate.entry ∷ [])) }
+    ensures { IfOk result (λ shown. sums_shown shown ≡ spec.sum_of election ∷ sums_of (option_to_list (option_map lent outcome.entry) ++ option_to_list (option_map lent certificate.entry))) }
 {
     Ok(Files {
         election,
-        outcome: outcome_input(alloc, names.outcome, outcome)?,
-        certificate: input_file(alloc, names.certificate, certificate)?,
+        outcome: given_input(alloc, names.outcome, outcome)?,
+        certificate: given_input(alloc, names.certificate, certificate)?,
     })
 }
 
-/// What is shown of an outcome file, where there is one.
-fn outcome_input(
+/// What is shown of a file, where one is given.
+fn given_input(
     alloc: Global,
     name: &[u8],
     file: Option<File<'_>>,

@@ -12,7 +12,7 @@ mod files;
 use crate::style::STYLE;
 use pb_case::Case;
 use pb_figures::CertificateFigures;
-use pb_group_parts::{refutation, violation};
+use pb_group_parts::{groups, refutation, violation};
 use pb_markup::{Attributes, Name, Page, Tag};
 use pb_parts::{push_browser_title, push_closing, push_glance, push_top};
 use pb_price_parts::prices;
@@ -87,8 +87,8 @@ fn up_to_figures(alloc: Global, case: &Case<'_>) -> Page {
     page
 }
 
-// The figures: for prices the projects and the conditions, for a violation the group and the tests, and for a refutation
-// the weights and the tests.
+// The figures: for prices the projects and the conditions, for a violation the group and the tests, for a refutation the
+// weights and the tests, and without a certificate the unfunded projects with their groups.
 fn figures_of(case: &Case<'_>) -> Page
     ensures { IfSome result (ListsProjects (case.now).told.mode (case.now).told.found) }
 {
@@ -96,6 +96,7 @@ fn figures_of(case: &Case<'_>) -> Page
         CertificateFigures::Prices(figures) => prices(case, figures),
         CertificateFigures::Violation(figures) => violation(case, figures),
         CertificateFigures::Refutation(figures) => refutation(case, figures),
+        CertificateFigures::Groups(figures) => groups(case, figures),
     }
 }
 

@@ -141,6 +141,11 @@ thead .number { white-space: normal; }
 .demand {
   grid-template-columns: minmax(0, 2.4fr) minmax(min-content, 1fr) minmax(7rem, 1fr) minmax(0, 2.6fr);
 }
+.short {
+  grid-template-columns:
+    minmax(0, 2.2fr) repeat(2, minmax(min-content, 1fr)) minmax(7rem, 1fr) minmax(min-content, 1fr)
+    minmax(0, 2.2fr);
+}
 .fails { color: var(--bad); font-weight: 700; }
 .head { display: none; }
 .conditions { list-style: none; margin: 0; padding: 0; max-width: none; }

@@ -12,7 +12,7 @@ ghost use Rattle.pb_page.specs.Taken.{FindsFigures, TellsCertificate, status_of}
 
 use pb_case::shown_line;
 use pb_certificate::{Kind, Refutation, Violation};
-use pb_cohesion::{refutation_findings, violation_findings};
+use pb_cohesion::{cost_of_funded, refutation_findings, violation_findings};
 use pb_election::{Election, Outcome};
 use pb_figures::{
     CertificateFigures, PriceFigures, RefutationFigures, Style, Told, ViolationFigures, extremes_of,
@@ -20,8 +20,9 @@ use pb_figures::{
 use pb_input::{InputFault, InputName};
 use pb_price::{Mode, findings_and_margins_of};
 use pb_reply::{
-    File, Status, Stop, bytes_of, kind_in, price_line, price_status, refutation_line,
-    refutation_of, refutation_status, stop_at, violation_line, violation_of, violation_status,
+    File, Status, Stop, bytes_of, groups_status, kind_in, price_line, price_status,
+    refutation_line, refutation_of, refutation_status, stop_at, violation_line, violation_of,
+    violation_status,
 };
 use std::alloc::{AllocError, Global};
 
@@ -137,7 +138,7 @@ fn group_told(
         findings,
         costs: costs_of(alloc, election)?,
         limit: election.limit().millionths(),
-        funded: outcome.total(),
+        funded: cost_of_funded(election, outcome),
         voters: election.voters(),
     };
     Ok((line, figures))
@@ -157,7 +158,7 @@ fn refutation_told(
     ensures style { IfOk result (λ t. t.style ≡ style) }
 {
     let refutation = refutation_of(alloc, certificate, election)?;
-    let (line, figures) = weights_told(alloc, election, outcome, refutation)?;
+    let (line, figures) = weights_told(alloc, election, outcome, refutation, mode.stable)?;
     Ok(Told {
         style,
         mode,
@@ -166,18 +167,19 @@ fn refutation_told(
     })
 }
 
-// The line and the figures of weights.
+// The line and the figures of weights, by whether stable prices are asked about.
 fn weights_told(
     alloc: Global,
     election: &Election,
     outcome: &Outcome,
     refutation: Refutation,
+    stable: bool,
 ) -> Result<(String, RefutationFigures), AllocError>
     requires outcome { OutcomeFits outcome.now election.now }
     requires refutation { WeightsFit refutation election.now }
-    ensures { IfOk result (λ told. TellsWeights election.now (outcome.now).marks refutation (string_bytes told.0) told.1) }
+    ensures { IfOk result (λ told. TellsWeights stable election.now (outcome.now).marks refutation (string_bytes told.0) told.1) }
 {
-    let findings = refutation_findings(election, outcome, &refutation);
+    let findings = refutation_findings(election, outcome, &refutation, stable);
     let verdict = findings.verdict();
     let line = shown_line(alloc, &refutation_line(alloc, election, verdict)?)?;
     let figures = RefutationFigures {
@@ -186,13 +188,13 @@ fn weights_told(
         findings,
         costs: costs_of(alloc, election)?,
         limit: election.limit().millionths(),
-        funded: outcome.total(),
+        funded: cost_of_funded(election, outcome),
     };
     Ok((line, figures))
 }
 
-// What each project costs, in millionths.
-fn costs_of(alloc: Global, election: &Election) -> Result<Vec<u64>, AllocError>
+/// What each project costs, in millionths.
+pub(crate) fn costs_of(alloc: Global, election: &Election) -> Result<Vec<u64>, AllocError>
     ensures { IfOk result (λ costs. costs.items ≡ map (cost_of election.now) (all_projects election.now)) }
 {
     let mut costs = Vec::new(alloc);
@@ -210,5 +212,6 @@ pub(crate) fn status_of(told: &Told) -> Status
         CertificateFigures::Prices(figures) => price_status(figures.findings.verdict(told.mode)),
         CertificateFigures::Violation(figures) => violation_status(figures.verdict),
         CertificateFigures::Refutation(figures) => refutation_status(figures.verdict),
+        CertificateFigures::Groups(figures) => groups_status(figures.verdict()),
     }
 }

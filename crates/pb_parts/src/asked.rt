@@ -4,7 +4,7 @@ use pb_certificate::Measure;
 use pb_figures::{CertificateFigures, PriceFigures, RefutationFigures};
 use pb_markup::{Page, Tag};
 use pb_price::{Mode, Verdict};
-use pb_words::Sentence;
+use pb_words::{Sentence, ShortGroups, StableWeights};
 
 /// Adds what was asked.
 pub fn push_asked(page: &mut Page, case: &Case<'_>) {
@@ -15,8 +15,9 @@ pub fn push_asked(page: &mut Page, case: &Case<'_>) {
             let measure = figures.violation.satisfaction();
             page.element(Tag::Li, case.words.say(measure_asked(measure)));
         }
-        CertificateFigures::Refutation(figures) => {
-            page.element(Tag::Li, case.words.say(refutation_asked(figures)));
+        CertificateFigures::Refutation(figures) => push_asked_of_weights(page, case, figures),
+        CertificateFigures::Groups(figures) => {
+            page.element(Tag::Li, case.words.say(groups_asked(figures.measure)));
         }
     }
     page.close();
@@ -29,11 +30,28 @@ fn measure_asked(measure: Measure) -> Sentence {
     }
 }
 
+fn groups_asked(measure: Measure) -> Sentence {
+    Sentence::OfShortGroups(match measure {
+        Measure::ByCount => ShortGroups::AskedByCount,
+        Measure::ByCost => ShortGroups::AskedByCost,
+    })
+}
+
 fn refutation_asked(figures: &RefutationFigures) -> Sentence {
-    if figures.refutation.cover() == 0 {
-        Sentence::AskedRefutation
-    } else {
-        Sentence::AskedRefutationUnderCover
+    match (figures.asks_stable(), figures.refutation.cover() == 0) {
+        (false, true) => Sentence::AskedRefutation,
+        (false, false) => Sentence::AskedRefutationUnderCover,
+        (true, true) => Sentence::OfStableWeights(StableWeights::Asked),
+        (true, false) => Sentence::OfStableWeights(StableWeights::AskedUnderCover),
+    }
+}
+
+// Adds what was asked of weights, and that they prove it of all prices, where stable ones alone were asked about.
+fn push_asked_of_weights(page: &mut Page, case: &Case<'_>, figures: &RefutationFigures) {
+    page.element(Tag::Li, case.words.say(refutation_asked(figures)));
+    if figures.asks_stable() && !figures.tells_of_stable() {
+        let sentence = Sentence::OfStableWeights(StableWeights::OfAllPrices);
+        page.element_class(Tag::Li, "stable", case.words.say(sentence));
     }
 }
 

@@ -1,12 +1,13 @@
 //! What the answer doesn't say, what it lets one say in public, and the words of the page.
 use crate::asked::fails_as_stable_alone;
 use crate::groups::{on_groups, said_of_groups, says_little};
+use crate::short_groups;
 use pb_case::Case;
 use pb_certificate::Measure;
-use pb_figures::{CertificateFigures, PriceFigures};
+use pb_figures::{CertificateFigures, PriceFigures, RefutationFigures};
 use pb_markup::{Page, Tag};
 use pb_price::{Failure, Verdict};
-use pb_words::{Headline, Sentence};
+use pb_words::{Headline, Sentence, ShortGroups, StableWeights};
 
 /// Adds the parts behind the figures.
 pub fn push_closing(page: &mut Page, case: &Case<'_>) {
@@ -19,11 +20,26 @@ fn push_not_said(page: &mut Page, case: &Case<'_>) {
     page.open(Tag::Section);
     page.element(Tag::H2, case.words.say(Sentence::NotSaid));
     page.open(Tag::Ul);
+    push_not_said_of_plain(page, case);
     page.element(Tag::Li, case.words.say(not_said(case)));
     push_not_said_of_groups(page, case);
+    for sentence in short_groups::more_not_said(case) {
+        page.element(Tag::Li, case.words.say(*sentence));
+    }
     page.element(Tag::Li, case.words.say(Sentence::NotSaidFiles));
     page.close();
     page.close();
+}
+
+// Adds that there may be prices all the same, where weights refute stable ones alone.
+fn push_not_said_of_plain(page: &mut Page, case: &Case<'_>) {
+    match case.told.headline() {
+        Headline::UnpriceableStable | Headline::UnpriceableStableUnderCover => {
+            let sentence = Sentence::OfStableWeights(StableWeights::NotSaidPlain);
+            page.element(Tag::Li, case.words.say(sentence));
+        }
+        _ => {}
+    }
 }
 
 // Adds what a yes to prices doesn't say of groups.
@@ -44,8 +60,14 @@ fn not_said(case: &Case<'_>) -> Sentence {
         Headline::NotSupported => Sentence::NotSaidPayments,
         Headline::Violation => Sentence::NotSaidWhich,
         Headline::NoViolation => Sentence::NotSaidGroup,
-        Headline::Unpriceable | Headline::UnpriceableUnderCover => Sentence::NotSaidUnfair,
+        Headline::NoGroupFallsShort => Sentence::OfShortGroups(ShortGroups::NotSaidRoom),
+        Headline::GroupFallsShort => Sentence::OfShortGroups(ShortGroups::NotSaidAdded),
+        Headline::Unpriceable
+        | Headline::UnpriceableUnderCover
+        | Headline::UnpriceableStable
+        | Headline::UnpriceableStableUnderCover => Sentence::NotSaidUnfair,
         Headline::NotRefuted => Sentence::NotSaidWeights,
+        Headline::NotRefutedStable => Sentence::OfStableWeights(StableWeights::NotSaidWeights),
     }
 }
 
@@ -57,7 +79,7 @@ fn push_claim(page: &mut Page, case: &Case<'_>) {
         page.text(case.words.say(sentence));
         page.text(" ");
     }
-    page.text(case.words.say(claim(case)));
+    page.text(case.words.say(claim_of(case)));
     push_measure(page, case);
     push_caution(page, case);
     page.close();
@@ -95,7 +117,14 @@ fn push_caution(page: &mut Page, case: &Case<'_>) {
     page.text(case.words.say(sentence));
 }
 
-fn claim(case: &Case<'_>) -> Sentence {
+fn claim_of(case: &Case<'_>) -> Sentence {
+    match &case.told.found {
+        CertificateFigures::Groups(figures) => short_groups::claim(figures),
+        _ => claim_of_certificate(case),
+    }
+}
+
+fn claim_of_certificate(case: &Case<'_>) -> Sentence {
     match case.told.headline() {
         Headline::Supported => Sentence::ClaimSupported,
         Headline::SupportedStable => Sentence::ClaimStable,
@@ -106,7 +135,15 @@ fn claim(case: &Case<'_>) -> Sentence {
         Headline::NoViolation => Sentence::ClaimNoViolation,
         Headline::Unpriceable => Sentence::ClaimUnpriceable,
         Headline::UnpriceableUnderCover => Sentence::ClaimUnpriceableUnderCover,
+        Headline::UnpriceableStable => {
+            Sentence::OfStableWeights(StableWeights::ClaimUnpriceable)
+        }
+        Headline::UnpriceableStableUnderCover => {
+            Sentence::OfStableWeights(StableWeights::ClaimUnpriceableUnderCover)
+        }
         Headline::NotRefuted => Sentence::ClaimNotRefuted,
+        Headline::NoGroupFallsShort | Headline::GroupFallsShort => Sentence::ClaimHow,
+        Headline::NotRefutedStable => Sentence::OfStableWeights(StableWeights::ClaimNotRefuted),
     }
 }
 
@@ -114,7 +151,7 @@ fn claim(case: &Case<'_>) -> Sentence {
 fn is_of_outcome(case: &Case<'_>) -> bool {
     match &case.told.found {
         CertificateFigures::Prices(figures) => fails_by_outcome(case, figures),
-        CertificateFigures::Violation(_) | CertificateFigures::Refutation(_) => false,
+        _ => false,
     }
 }
 
@@ -122,7 +159,7 @@ fn is_of_outcome(case: &Case<'_>) -> bool {
 fn is_plain_alone(case: &Case<'_>) -> bool {
     match &case.told.found {
         CertificateFigures::Prices(figures) => fails_as_stable_alone(case, figures),
-        CertificateFigures::Violation(_) | CertificateFigures::Refutation(_) => false,
+        _ => false,
     }
 }
 
@@ -137,22 +174,38 @@ fn push_words(page: &mut Page, case: &Case<'_>) {
     page.open(Tag::Section);
     page.element(Tag::H2, case.words.say(Sentence::Words));
     page.open_class(Tag::Dl, "words");
+    match &case.told.found {
+        CertificateFigures::Prices(_) => push_words_of_prices(page, case),
+        CertificateFigures::Violation(_) => push_words_of_violations(page, case),
+        CertificateFigures::Refutation(figures) => push_words_of_refutations(page, case, figures),
+        CertificateFigures::Groups(figures) => push_words_of_groups(page, case, figures.measure),
+    }
+    page.close();
+    page.close();
+}
+
+fn push_word_of_certificates(page: &mut Page, case: &Case<'_>) {
     push_word(
         page,
         case,
         Sentence::WordCertificate,
         Sentence::MeansCertificate,
     );
-    match &case.told.found {
-        CertificateFigures::Prices(_) => push_words_of_prices(page, case),
-        CertificateFigures::Violation(_) => push_words_of_violations(page, case),
-        CertificateFigures::Refutation(_) => push_words_of_refutations(page, case),
+}
+
+fn push_words_of_groups(page: &mut Page, case: &Case<'_>, measure: Measure) {
+    for (word, meaning) in short_groups::words_of(measure) {
+        push_word(
+            page,
+            case,
+            Sentence::OfShortGroups(word),
+            Sentence::OfShortGroups(meaning),
+        );
     }
-    page.close();
-    page.close();
 }
 
 fn push_words_of_prices(page: &mut Page, case: &Case<'_>) {
+    push_word_of_certificates(page, case);
     push_word(page, case, Sentence::WordPrices, Sentence::MeansPrices);
     push_word(
         page,
@@ -165,11 +218,13 @@ fn push_words_of_prices(page: &mut Page, case: &Case<'_>) {
 }
 
 fn push_words_of_violations(page: &mut Page, case: &Case<'_>) {
+    push_word_of_certificates(page, case);
     push_word(page, case, Sentence::WordShare, Sentence::MeansShare);
     push_word(page, case, Sentence::WordDemand, Sentence::MeansDemand);
 }
 
-fn push_words_of_refutations(page: &mut Page, case: &Case<'_>) {
+fn push_words_of_refutations(page: &mut Page, case: &Case<'_>, figures: &RefutationFigures) {
+    push_word_of_certificates(page, case);
     push_word(page, case, Sentence::WordPrices, Sentence::MeansPrices);
     push_word(
         page,
@@ -178,6 +233,9 @@ fn push_words_of_refutations(page: &mut Page, case: &Case<'_>) {
         Sentence::MeansSupporter,
     );
     push_word(page, case, Sentence::WordLeftover, Sentence::MeansLeftover);
+    if figures.tells_of_stable() {
+        push_word(page, case, Sentence::WordOffer, Sentence::MeansOffer);
+    }
     push_word(page, case, Sentence::WordWeight, Sentence::MeansWeight);
 }
 

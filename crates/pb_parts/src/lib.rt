@@ -5,6 +5,7 @@ mod asked;
 mod closing;
 mod glance;
 mod groups;
+mod short_groups;
 mod top;
 
 pub use asked::push_asked;

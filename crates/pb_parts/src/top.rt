@@ -25,7 +25,7 @@ pub fn push_top(page: &mut Page, case: &Case<'_>) {
     page.close();
 }
 
-// What the election says that it is, or else the name of its file.
+// The election's title, or otherwise the name of its file.
 fn title<'a>(case: &'a Case<'_>) -> &'a str {
     let description = case.labels.fact("description");
     if description.is_empty() {

@@ -1,10 +1,10 @@
 -- The projects of a ballot, one after another: marks and money for each.
-use Rattle.std.proofs.Common.{◌≡◌, ℕ, zero, suc, ◌+◌, ◌-◌, ◌<◌, ◌≤◌, true, false, cond, List, [], ◌∷◌, length, get_or, set, take, refl, sym, ◌∙◌, ap, subst, arith, get_or-set_other, get_or-set_same}
-use Rattle.std.specs.Prelude.{◌==◌, pos}
-use Rattle.std.proofs.lemmas.Bool.{cases_eq, eq-eqb, ne_eqb}
+use Rattle.std.proofs.Common.{◌≡◌, ℕ, ◌+◌, ◌-◌, ◌<◌, ◌≤◌, cond, List, length, get_or, set, take, refl, sym, ◌∙◌, ap, subst, arith, get_or-set_other, get_or-set_same}
+use Rattle.std.specs.Prelude.{pos}
+use Rattle.std.proofs.lemmas.Bool.{cases_eq}
 use Rattle.std.proofs.lemmas.List.{get_or_default, length-set}
-use Rattle.std.proofs.Math.Bool.{or-true}
 use Rattle.pb_election.specs.Instance.{IsSet}
+use Rattle.pb_cohesion.proofs.Fronts.{among-fresh, among-hit, among-miss}
 use Rattle.pb_cohesion.proofs.Loops.{set-at}
 use Rattle.pb_cohesion.proofs.Sums.{among}
 use Rattle.pb_price.specs.Inside.Tallies.{AreChanged, AreSmall}
@@ -22,34 +22,6 @@ written xs i p v d P within here other = grind (arith, cases_eq, get_or, get_or-
 pub read : (xs : List ProjectSums) (i p : ℕ) (d : ProjectSums) → p < length xs → p ≡ i
     → get_or xs i nothing ≡ get_or xs p d
 read xs i p d within e = ap (λ k. get_or xs k nothing) (sym e) ∙ get_or_default xs p nothing d within
-
--- the front of a ballot with one more project
-
-hit : (b : List ℕ) (k x : ℕ) → k < length b → get_or b k 0 ≡ x → among (take (suc k) b) x ≡ true
-hit [] k x h e = absurd (omega arith)
-hit (y ∷ ys) zero x h e = rw (eq-eqb y x e) refl
-hit (y ∷ ys) (suc k) x h e = rw (hit ys k x (omega arith) e) (or-true (y == x))
-
-miss : (b : List ℕ) (k x : ℕ) → k < length b → (get_or b k 0 ≡ x → ⊥) → among (take (suc k) b) x ≡ among (take k b) x
-miss [] k x h ne = absurd (omega arith)
-miss (y ∷ ys) zero x h ne = rw (ne_eqb y x ne) refl
-miss (y ∷ ys) (suc k) x h ne = rw (miss ys k x (omega arith) ne) refl
-
-pub among-hit : (b : List ℕ) (k x : ℕ) → k < length b → get_or b k 0 ≡ x → among (take (k + 1) b) x ≡ true
-among-hit b k x h e = let next : k + 1 ≡ suc k = omega arith in ap (λ m. among (take m b) x) next ∙ hit b k x h e
-
-pub among-miss : (b : List ℕ) (k x : ℕ) → k < length b → (get_or b k 0 ≡ x → ⊥)
-    → among (take (k + 1) b) x ≡ among (take k b) x
-among-miss b k x h ne = let next : k + 1 ≡ suc k = omega arith in ap (λ m. among (take m b) x) next ∙ miss b k x h ne
-
--- a set has no number twice
-pub among-fresh : (b : List ℕ) (k low high : ℕ) → IsSet low high b → k < length b
-    → among (take k b) (get_or b k 0) ≡ false
-among-fresh [] k low high s h = absurd (omega arith)
-among-fresh (y ∷ ys) zero low high s h = refl
-among-fresh (y ∷ ys) (suc k) low high s h =
-    let later : (y + 1 ≤ get_or ys k 0) × (get_or ys k 0 ≤ high) = set-at (y + 1) high ys k s.2 (omega arith) in
-    rw (ne_eqb y (get_or ys k 0) (λ e. omega (arith, later.0))) (among-fresh ys k (y + 1) high s.2 (omega arith))
 
 -- the project at a place of a ballot
 pub low : (n : ℕ) (b : List ℕ) (k : ℕ) → IsSet 1 n b → k < length b → 1 ≤ get_or b k 0

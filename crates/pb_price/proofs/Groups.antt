@@ -4,15 +4,19 @@ use Rattle.std.specs.Prelude.{◌⊎◌, IsFalse, IsTrue, Ok, Option, Result, So
 use Rattle.std.proofs.lemmas.Bool.{cases_Bool}
 use Rattle.pb_election.specs.Instance.{Instance, voters}
 use Rattle.pb_certificate.specs.Prices.{Prices}
+use Rattle.pb_certificate.specs.declared.violations.measure.Measure.TheVariants.{ByCount}
 use Rattle.pb_cohesion.specs.Amounts.{beta, budget_limit}
 use Rattle.pb_cohesion.specs.Conditions.{C5, S5}
 use Rattle.pb_cohesion.specs.EveryGroup.{BudgetsAreWithinReach, BudgetsReachTheLimit, GroupsGetTheirShare, NoGroupHasMoreLeft, NoGroupIsPassedOver, NoViolationByCounting, NothingBlocks, SharesAreWithinReach, SupportersBlock, SupportersHaveMoreLeft}
-use Rattle.pb_cohesion.specs.Refutations.{NothingRefutes}
+use Rattle.pb_cohesion.specs.Refutations.{NothingRefutes, NothingRefutesStable}
+use Rattle.pb_cohesion.specs.Short.{SatisfiesEjrPlus}
+use Rattle.pb_cohesion.proofs.EjrPlus.{stable_has_ejr_plus, stable_has_ejr_plus_at_limit}
 use Rattle.pb_cohesion.proofs.Exhausted.{no_violation_at_limit, none_passed_over_at_limit}
 use Rattle.pb_cohesion.proofs.Justified.{stable_has_no_violation, stable_is_fair}
 use Rattle.pb_cohesion.proofs.Plain as plain
 use Rattle.pb_cohesion.proofs.Reaches.{within_reach}
 use Rattle.pb_cohesion.proofs.Refuting.{nothing_refutes}
+use Rattle.pb_cohesion.proofs.RefutingStable.{nothing_refutes_stable}
 use Rattle.pb_cohesion.proofs.Shares.{demands_reach, no_demand_passed_over, none_passed_over, shares_reach}
 use Rattle.pb_cohesion.proofs.Stable as stable
 use Rattle.pb_price.proofs.FirstFalse.{first-false, is-less, supports-iff}
@@ -101,6 +105,19 @@ unrefuted m e w p low none =
       either-form m.stable e w p yes'.plain yes'.stable_form,
     ) yes'.covers
 
+pub unrefuted-stable : (m : Mode) (e : Instance) (w : List Bool) (p : Prices) → 1 ≤ p.denominator
+    → First m e w p ≡ None → m.stable ≡ true → NothingRefutesStable m.cover e w
+unrefuted-stable m e w p low none is_stable =
+    let yes' : Supports m e w p = (supports-iff m e w p).0 none in
+    nothing_refutes_stable e w p m.cover (
+      low,
+      yes'.approved,
+      yes'.within_budget,
+      yes'.paid_for,
+      yes'.none_wasted,
+      yes'.stable_form is_stable,
+    ) yes'.covers
+
 pub fair : (m : Mode) (e : Instance) (w : List Bool) (p : Prices) → First m e w p ≡ None → m.stable ≡ true
     → GroupsGetTheirShare e w p
 fair m e w p none is_stable s t group projects approve rich =
@@ -118,6 +135,16 @@ no-violation m e w p low none is_stable (inr full) s t group projects violation 
     let yes' : Supports m e w p = (supports-iff m e w p).0 none in
     no_violation_at_limit e w p s t low yes'.approved yes'.within_budget yes'.paid_for yes'.none_wasted
     (yes'.stable_form is_stable) (yes'.exhausts full.1) full.0 group projects violation
+
+pub ejr-plus : (m : Mode) (e : Instance) (w : List Bool) (p : Prices) → 1 ≤ p.denominator → First m e w p ≡ None
+    → m.stable ≡ true → IsStrict m e p → SatisfiesEjrPlus ByCount e w
+ejr-plus m e w p low none is_stable (inl cover) s c short =
+    let yes' : Supports m e w p = (supports-iff m e w p).0 none in
+    stable_has_ejr_plus e w p s c yes'.approved yes'.none_wasted (yes'.stable_form is_stable) cover short
+ejr-plus m e w p low none is_stable (inr full) s c short =
+    let yes' : Supports m e w p = (supports-iff m e w p).0 none in
+    stable_has_ejr_plus_at_limit e w p s c low yes'.approved yes'.within_budget yes'.paid_for yes'.none_wasted
+    (yes'.stable_form is_stable) (yes'.exhausts full.1) full.0 short
 
 -- a verdict tells its failure
 supported-none : (o : Option Failure) → verdict_of o ≡ verdict.Supported → o ≡ None
@@ -145,8 +172,10 @@ on-prices m e w p v low is = record {
   demand_yes = λ h reached. demands_reach e w (shares m e w p low (none h) reached);
   pjr_yes = λ h strict. no_demand_passed_over e w (passes-nobody-over m e w p low (none h) strict);
   unrefuted_yes = λ h. unrefuted m e w p low (none h);
+  unrefuted_stable_yes = λ h stable'. unrefuted-stable m e w p low (none h) stable';
   fair_yes = λ h stable'. fair m e w p (none h) stable';
   covered_yes = λ h stable' strict. no-violation m e w p low (none h) stable' strict;
+  ejr_plus_yes = λ h stable' strict. ejr-plus m e w p low (none h) stable' strict;
 }
   where
     none : v ≡ verdict.Supported → First m e w p ≡ None

@@ -15,7 +15,7 @@ use Rattle.pb_certificate.specs.Prices.Text.{IsPriceText, Payment, payment_of, s
 use Rattle.pb_certificate.specs.Prices.{Prices}
 use Rattle.pb_certificate.specs.Prices.Rows.{ComesNext, GivesRow, Rows, given}
 use Rattle.pb_certificate.specs.declared.prices.row.PriceRow.{PriceRow}
-use Rattle.pb_certificate.proofs.OnPrices.GatherSteps.{may-follow}
+use Rattle.pb_certificate.proofs.OnPrices.RowSteps.{may-follow}
 use Rattle.pb_certificate.proofs.OnPrices.Texts.{stated-length}
 use Rattle.pb_price.specs.Inside.Tallies.{CanTakeRow, TakesRow, Tallied}
 use Rattle.pb_price.specs.Inside.Tallying.{taken_from}

@@ -4,8 +4,10 @@ use Rattle.pb_election.specs.Instance.{Instance, approvals, projects, voters}
 use Rattle.pb_records.specs.Cells.{nonblank}
 use Rattle.pb_certificate.specs.Faults.{certificate_records}
 use Rattle.pb_certificate.specs.Prices.{Prices}
+use Rattle.pb_certificate.specs.declared.violations.measure.Measure.TheVariants.{ByCount}
 use Rattle.pb_cohesion.specs.EveryGroup.{BudgetsAreWithinReach, BudgetsReachTheLimit, DemandsAreWithinReach, GroupsGetTheirShare, NoDemandIsPassedOver, NoGroupHasMoreLeft, NoGroupIsPassedOver, NoViolationByCounting, NothingBlocks, SharesAreWithinReach, SupportersBlock, SupportersHaveMoreLeft}
-use Rattle.pb_cohesion.specs.Refutations.{NothingRefutes}
+use Rattle.pb_cohesion.specs.Refutations.{NothingRefutes, NothingRefutesStable}
+use Rattle.pb_cohesion.specs.Short.{SatisfiesEjrPlus}
 use Rattle.pb_price.specs.First.{First, verdict_of}
 use Rattle.pb_price.specs.OnGroups.{HoldsOfGroups, IsStrict, groups_by}
 use Rattle.pb_price.specs.Supports.{Supports}
@@ -26,6 +28,7 @@ pub record IsVerdictOn (m : Mode) (e : Instance) (w : List Bool) (p : Prices) (v
   pub stable_no : (c : ℕ) → v ≡ verdict.Failed (failure.S5 c) → SupportersBlock e w p c
   pub fair_yes : v ≡ verdict.Supported → IsTrue m.stable → GroupsGetTheirShare e w p
   pub covered_yes : v ≡ verdict.Supported → IsTrue m.stable → IsStrict m e p → NoViolationByCounting e w
+  pub ejr_plus_yes : v ≡ verdict.Supported → IsTrue m.stable → IsStrict m e p → SatisfiesEjrPlus ByCount e w
   -- what a yes in either form says
   pub any_yes : v ≡ verdict.Supported → BudgetsAreWithinReach e w p
   -- and of shares, by the three cases: where the budgets of all voters together are at least the limit, or strictly
@@ -34,8 +37,9 @@ pub record IsVerdictOn (m : Mode) (e : Instance) (w : List Bool) (p : Prices) (v
   pub pjr_plus_yes : v ≡ verdict.Supported → IsStrict m e p → NoGroupIsPassedOver e w
   pub demand_yes : v ≡ verdict.Supported → BudgetsReachTheLimit e p → DemandsAreWithinReach e w
   pub pjr_yes : v ≡ verdict.Supported → IsStrict m e p → NoDemandIsPassedOver e w
-  -- what a yes in any mode says of refutations
+  -- what a yes in any mode says of refutations, and a stable one of those of stable prices
   pub unrefuted_yes : v ≡ verdict.Supported → NothingRefutes m.cover e w
+  pub unrefuted_stable_yes : v ≡ verdict.Supported → IsTrue m.stable → NothingRefutesStable m.cover e w
 
 -- how many rows of payments a certificate has: its records that are not blank, but for the four of the head
 abbrev pub row_count : List ℕ → ℕ

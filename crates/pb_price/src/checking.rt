@@ -7,8 +7,10 @@ ghost use Rattle.pb_certificate.specs.Faults.{Refuses, certificate_records, no_m
 ghost use Rattle.pb_certificate.specs.Prices as spec;
 ghost use Rattle.pb_certificate.specs.Prices.Text.{IsPriceText};
 ghost use Rattle.pb_certificate.specs.Prices.{PricesFit, most_denominator};
+ghost use Rattle.pb_certificate.specs.declared.violations.measure.Measure.TheVariants.{ByCount};
 ghost use Rattle.pb_cohesion.specs.EveryGroup.{BudgetsAreWithinReach, BudgetsReachTheLimit, DemandsAreWithinReach, GroupsGetTheirShare, NoDemandIsPassedOver, NoGroupHasMoreLeft, NoGroupIsPassedOver, NoViolationByCounting, NothingBlocks, SharesAreWithinReach, SupportersBlock, SupportersHaveMoreLeft};
-ghost use Rattle.pb_cohesion.specs.Refutations.{NothingRefutes};
+ghost use Rattle.pb_cohesion.specs.Refutations.{NothingRefutes, NothingRefutesStable};
+ghost use Rattle.pb_cohesion.specs.Short.{SatisfiesEjrPlus};
 ghost use Rattle.pb_price.specs.Answers.{AreStepsOf, IsVerdictOn, row_count};
 ghost use Rattle.pb_price.specs.OnGroups.{HoldsOfGroups, IsStrict, groups_by};
 ghost use Rattle.pb_price.specs.Supports.{Supports};
@@ -50,6 +52,7 @@ pub fn check(
     // What a stable yes says of what groups deserve, and where it is strict of groups.
     ensures fair_yes { result ≡ Ok Verdict.Supported → IsTrue mode.stable → GroupsGetTheirShare election.now (outcome.now).marks prices.now }
     ensures covered_yes { result ≡ Ok Verdict.Supported → IsTrue mode.stable → IsStrict mode election.now prices.now → NoViolationByCounting election.now (outcome.now).marks }
+    ensures ejr_plus_yes { result ≡ Ok Verdict.Supported → IsTrue mode.stable → IsStrict mode election.now prices.now → SatisfiesEjrPlus ByCount election.now (outcome.now).marks }
 
     // What a yes in either form says.
     ensures any_yes { result ≡ Ok Verdict.Supported → BudgetsAreWithinReach election.now (outcome.now).marks prices.now }
@@ -62,8 +65,9 @@ pub fn check(
     ensures demand_yes { result ≡ Ok Verdict.Supported → BudgetsReachTheLimit election.now prices.now → DemandsAreWithinReach election.now (outcome.now).marks }
     ensures pjr_yes { result ≡ Ok Verdict.Supported → IsStrict mode election.now prices.now → NoDemandIsPassedOver election.now (outcome.now).marks }
 
-    // What a yes in any mode says of refutations.
+    // What a yes in any mode says of refutations, and a stable one of those of stable prices.
     ensures unrefuted_yes { result ≡ Ok Verdict.Supported → NothingRefutes mode.cover election.now (outcome.now).marks }
+    ensures unrefuted_stable_yes { result ≡ Ok Verdict.Supported → IsTrue mode.stable → NothingRefutesStable mode.cover election.now (outcome.now).marks }
 {
     let budget = payment_grains(prices.budget());
     let mut tally = Tally::new(alloc, election, budget)?;

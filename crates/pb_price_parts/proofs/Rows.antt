@@ -2,11 +2,12 @@
 use Rattle.std.proofs.Common.{◌≡◌, ◌∙◌, ◌+◌, ◌<◌, ◌++◌, ℕ, Bool, List, Option, [], ◌∷◌, ap, get_or, length, map, subst, sym, take}
 use Rattle.std.proofs.lemmas.List.{map-append, take_more}
 use Rattle.std.specs.Prelude.{IfSome}
+use Rattle.pb_cohesion.specs.declared.GroupFigures.{GroupFigures}
 use Rattle.pb_price.specs.declared.Mode.{Mode}
 use Rattle.pb_price.specs.declared.ProjectMargins.{ProjectMargins}
 use Rattle.pb_markup.specs.InOrder.{HasParts}
 use Rattle.pb_markup.specs.Pieces.{Adds, AddsMade, Piece}
-use Rattle.pb_price_parts.specs.Rows.{ListsFunded, ListsProjects, ListsUnfunded, amount_piece}
+use Rattle.pb_price_parts.specs.Rows.{ListsFunded, ListsGroups, ListsProjects, ListsUnfunded, amount_piece}
 use Rattle.pb_figures.specs.declared.figure.Figure.{Figure}
 use Rattle.pb_figures.specs.declared.told.CertificateFigures.{CertificateFigures}
 use Rattle.pb_figures.specs.declared.told.CertificateFigures.TheVariants as found
@@ -45,6 +46,14 @@ pub funded-behind : (ms : List ProjectMargins) (before pieces : List Piece) → 
     → ListsFunded ms (before ++ pieces)
 funded-behind ms before pieces lists = (lists.0, lists.1, in-order-behind amount_piece _ before pieces lists.2)
 
+pub groups-before : (xs : List GroupFigures) (pieces behind : List Piece) → ListsGroups xs pieces
+    → ListsGroups xs (pieces ++ behind)
+groups-before xs pieces behind lists = (lists.0, lists.1, in-order-before amount_piece _ pieces behind lists.2)
+
+pub groups-behind : (xs : List GroupFigures) (before pieces : List Piece) → ListsGroups xs pieces
+    → ListsGroups xs (before ++ pieces)
+groups-behind xs before pieces lists = (lists.0, lists.1, in-order-behind amount_piece _ before pieces lists.2)
+
 pub lists-behind : (m : Mode) (f : CertificateFigures) (before pieces : List Piece) → ListsProjects m f pieces
     → ListsProjects m f (before ++ pieces)
 lists-behind m (found.Prices p) before pieces lists = (
@@ -53,6 +62,7 @@ lists-behind m (found.Prices p) before pieces lists = (
 )
 lists-behind m (found.Violation v) before pieces lists = tt
 lists-behind m (found.Refutation r) before pieces lists = tt
+lists-behind m (found.Groups g) before pieces lists = groups-behind g.groups.items before pieces lists
 
 pub lists-before : (m : Mode) (f : CertificateFigures) (pieces behind : List Piece) → ListsProjects m f pieces
     → ListsProjects m f (pieces ++ behind)
@@ -62,3 +72,4 @@ lists-before m (found.Prices p) pieces behind lists = (
 )
 lists-before m (found.Violation v) pieces behind lists = tt
 lists-before m (found.Refutation r) pieces behind lists = tt
+lists-before m (found.Groups g) pieces behind lists = groups-before g.groups.items pieces behind lists

@@ -1,11 +1,12 @@
 -- The rows of the tables of projects on a page about prices, by an amount that stands in each.
 use Rattle.std.specs.Prelude.{⊤, ◌^◌, nat_lt, if◌then◌else◌, ℕ, ℤ, Bool, List, [], ◌∷◌, map, take}
+use Rattle.pb_cohesion.specs.declared.GroupFigures.{GroupFigures}
 use Rattle.pb_price.specs.declared.Mode.{Mode}
 use Rattle.pb_price.specs.declared.ProjectMargins.{ProjectMargins}
 use Rattle.pb_markup.specs.InOrder.{HasParts}
 use Rattle.pb_markup.specs.Pieces.{Amount, Piece}
 use Rattle.pb_figures.specs.Ranking as ranking
-use Rattle.pb_figures.specs.Ranking.{AreRanked, by_missing, by_size}
+use Rattle.pb_figures.specs.Ranking.{AreRanked, by_group, by_missing, by_size}
 use Rattle.pb_figures.specs.declared.figure.Figure.{Figure}
 use Rattle.pb_figures.specs.declared.figure.Figure.TheVariants as figure
 use Rattle.pb_figures.specs.declared.told.CertificateFigures.{CertificateFigures}
@@ -41,9 +42,21 @@ ListsFunded ms pieces =
     (ranked : List (ℕ × ℕ × ℕ)) × AreRanked by_size (ranking.funded ms) ranked
     × HasParts amount_piece (map funded_amount (take most_rows ranked)) pieces
 
--- the rows of both tables of a page stand in their orders; a page about a violation or a refutation has neither
+-- In the row of a project's group stands its part of the limit. Those that fall short come first, the largest first, and
+-- the others behind them in the order of the file.
+abbrev pub group_amount : ℕ × ℕ → Figure
+group_amount x = figure.Part (narrow x.1)
+
+abbrev pub ListsGroups : List GroupFigures → List Piece → Type 0
+ListsGroups xs pieces =
+    (ranked : List (ℕ × ℕ)) × AreRanked by_group (ranking.groups xs) ranked
+    × HasParts amount_piece (map group_amount (take most_rows ranked)) pieces
+
+-- The rows of the tables of a page stand in their orders: of both tables about prices, and of that about groups that
+-- fall short. A page about a violation or a refutation has none of them.
 abbrev pub ListsProjects : Mode → CertificateFigures → List Piece → Type 0
 ListsProjects m (found.Prices p) pieces =
     ListsUnfunded m.stable p.margins.projects.items pieces × ListsFunded p.margins.projects.items pieces
 ListsProjects m (found.Violation v) pieces = ⊤
 ListsProjects m (found.Refutation r) pieces = ⊤
+ListsProjects m (found.Groups g) pieces = ListsGroups g.groups.items pieces

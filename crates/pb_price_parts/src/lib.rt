@@ -11,3 +11,4 @@ mod unfunded;
 
 pub use conditions::push_failed_condition;
 pub use parts::prices;
+pub use unfunded::narrow;

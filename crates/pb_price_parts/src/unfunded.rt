@@ -126,7 +126,7 @@ fn rows(case: &Case<'_>, figures: &PriceFigures, places: &Places, ranked: &[(i12
 }
 
 /// The number of a project as figures have it. No election has so many projects that it would be another.
-pub(crate) fn narrow(number: usize) -> u32
+pub fn narrow(number: usize) -> u32
     ensures { result ≡ spec.narrow number }
 {
     u32::try_from(number).unwrap_or(0)

@@ -11,6 +11,9 @@ pub mod BlankText
 mod CursorSteps
 pub mod DraftProgress
 pub mod FirstOrNone
+pub mod Distinct
 pub mod First
+pub mod Clear
+pub mod Headed
 pub mod FlatRuns
 pub mod FlexibleWriter

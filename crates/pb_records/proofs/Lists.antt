@@ -1,7 +1,7 @@
 -- Numbers in a row, what passes a test among them, and lists that are cut.
 use Rattle.std.proofs.Common.{◌≡◌, ◌∙◌, ℕ, zero, suc, ◌+◌, ◌<◌, ◌≤◌, Bool, false, List, [], ◌∷◌, ◌++◌, length, Option, Some, refl, sym, ap, arith}
 use Rattle.std.specs.Prelude.{filter, filter_map, map, slice_get, sum_by}
-use Rattle.std.specs.List.{range_with_len}
+use Rattle.std.specs.List.{AllByRecursion, range_with_len}
 use Rattle.std.proofs.lemmas.List.{map-append}
 use Rattle.std.proofs.lemmas.List.Sums.{sum_by-cons}
 
@@ -27,10 +27,32 @@ pub map-same : {A : Type 0} (f g : ℕ → A) (n a : ℕ) → ((j : ℕ) → a �
 map-same f g zero a h = refl
 map-same f g (suc n) a h = grind (arith, map-same f g n (a + 1))
 
--- what one more element states
-pub map-push : {A B : Type 0} (f : A → Option B) (xs : List A) (x : A) (ys : List B) (y : B) → map f xs ≡ map Some ys
-    → f x ≡ Some y → map f (xs ++ (x ∷ [])) ≡ map Some (ys ++ (y ∷ []))
-map-push f xs x ys y h k = grind (arith, map-append)
+-- what one more element gives
+pub map-push-by : {A B C : Type 0} (f : A → C) (g : B → C) (xs : List A) (x : A) (ys : List B) (y : B)
+    → map f xs ≡ map g ys → f x ≡ g y → map f (xs ++ (x ∷ [])) ≡ map g (ys ++ (y ∷ []))
+map-push-by f g xs x ys y h k = grind (arith, map-append)
+
+-- where an element that gives the one gives the other
+pub map-link : {A B C D : Type 0} (P : B → Type 0) (f : A → C) (g : B → C) (h : A → D) (k : B → D)
+    → ((x : A) (y : B) → P y → f x ≡ g y → h x ≡ k y) → (xs : List A) (ys : List B) → AllByRecursion P ys
+    → map f xs ≡ map g ys → map h xs ≡ map k ys
+map-link P f g h k link [] [] all same = refl
+map-link P f g h k link [] (y ∷ ys) all same = cc same
+map-link P f g h k link (x ∷ xs) [] all same = cc same
+map-link P f g h k link (x ∷ xs) (y ∷ ys) all same =
+    let first : f x ≡ g y = cc same in
+    let rest : map f xs ≡ map g ys = cc same in
+    rw (link x y all.0 first, map-link P f g h k link xs ys all.1 rest) refl
+
+-- what holds of each that is given
+pub map-each : {A B C : Type 0} (P : B → Type 0) (f : A → C) (g : B → C) → ((x : A) (y : B) → f x ≡ g y → P y)
+    → (xs : List A) (ys : List B) → map f xs ≡ map g ys → AllByRecursion P ys
+map-each P f g holds xs [] same = tt
+map-each P f g holds [] (y ∷ ys) same = cc same
+map-each P f g holds (x ∷ xs) (y ∷ ys) same =
+    let first : f x ≡ g y = cc same in
+    let rest : map f xs ≡ map g ys = cc same in
+    (holds x y first, map-each P f g holds xs ys rest)
 
 -- where each element states something, that is all that they state
 pub filter_map-all : {A B : Type 0} (f : A → Option B) (xs : List A) (ys : List B) → map f xs ≡ map Some ys

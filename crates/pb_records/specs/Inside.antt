@@ -4,4 +4,5 @@ pub mod Lines
 pub mod RecordReader
 pub mod Position
 pub mod Drafts
+pub mod Headed
 pub mod RecordWriter

@@ -1,16 +1,16 @@
 -- The projects that verdicts name are those of the election.
-use Rattle.std.proofs.Common.{◌≡◌, ◌≤◌, ℕ, Bool, List, [], ◌∷◌, length, if◌then◌else◌, arith}
-use Rattle.std.specs.Prelude.{◌==◌, nat_lt, ◌*◌, IfSome, Ok, Option, Some, None, filter, map}
+use Rattle.std.proofs.Common.{◌≡◌, ◌≤◌, ℕ, Bool, true, false, List, [], ◌∷◌, length, if◌then◌else◌, subst, sym, arith}
+use Rattle.std.specs.Prelude.{◌==◌, nat_lt, ◌*◌, IfSome, Ok, Option, Some, None, map}
 use Rattle.std.specs.List.{AllByRecursion}
-use Rattle.pb_records.proofs.Each.{all-append, all-every, all-filter, all-first, all-flat_map, all-if, all-map, all-range}
+use Rattle.pb_records.proofs.Each.{all-append, all-every, all-filter, all-first, all-flat_map, all-if, all-map}
 use Rattle.pb_election.specs.Instance.{Instance, IsProject, IsSet, all_projects, cost_of_all, projects, voters}
 use Rattle.pb_certificate.specs.Prices.{Prices}
 use Rattle.pb_certificate.specs.Refutations.{Weights}
 use Rattle.pb_cohesion.specs.Conditions.{culprits_of_C1, culprits_of_C2, culprits_of_C3, culprits_of_C4, culprits_of_Exhaustive}
-use Rattle.pb_cohesion.specs.FirstU.{FirstU, costs_agree, refutation_failures_of, refutation_verdict_of}
+use Rattle.pb_cohesion.specs.FirstU.{FirstStableU, FirstU, costs_agree, refutation_failures_of, refutation_verdict, verdict_by}
 use Rattle.pb_cohesion.specs.FirstV.{FirstV, culprits_of_V2, culprits_of_V4, violation_failures_of, violation_verdict_of}
 use Rattle.pb_cohesion.specs.Outcome.{total}
-use Rattle.pb_cohesion.specs.Refutations.{at_least, at_most, budgets_counted, budgets_taken, culprits_of_U1}
+use Rattle.pb_cohesion.specs.Refutations.{at_least, at_most, budgets_counted, budgets_taken, culprits_of_U1, stable_budgets_counted}
 use Rattle.pb_cohesion.specs.declared.RefutationFailure.{RefutationFailure}
 use Rattle.pb_cohesion.specs.declared.RefutationFailure.TheVariants as refutation_failure
 use Rattle.pb_cohesion.specs.declared.RefutationVerdict.{RefutationVerdict}
@@ -26,21 +26,13 @@ use Rattle.pb_price.specs.declared.Failure.TheVariants as failure
 use Rattle.pb_price.specs.declared.Findings.{Findings}
 use Rattle.pb_price.specs.declared.Mode.{Mode}
 use Rattle.pb_price.specs.declared.Verdict.{Verdict}
+use Rattle.pb_json.proofs.Named.{among-projects, projects-are, unapproved-name}
 use Rattle.pb_price.proofs.Told.{tell-first}
 use Rattle.pb_records.specs.Loading.{Delivery}
 use Rattle.pb_reply.specs.Inputs.{StatesPrices}
 use Rattle.pb_reply.specs.Lines.{price_failed, refutation_failed, violation_failed}
 use Rattle.pb_reply.specs.Named.{NamesProject, PricesNameProject, RefutationNamesProject, ViolationNamesProject}
 use Rattle.pb_input.specs.declared.InputName.{InputName}
-
--- projects
-pub projects-are : (e : Instance) → AllByRecursion (IsProject e) (all_projects e)
-projects-are e = all-range (IsProject e) 1 (projects e) (λ j low high. (low, omega arith))
-
--- the culprits among the projects that pass a test
-pub among-projects : (e : Instance) (q r : ℕ → Bool)
-    → AllByRecursion (IsProject e) (filter q (filter r (all_projects e)))
-among-projects e q r = grind (arith, all-filter, projects-are)
 
 -- a failure of prices names a project of the election, if any
 abbrev pub Names : Instance → Failure → Type 0
@@ -56,9 +48,6 @@ outcome-names m e w =
 
 pub budget-names : (m : Mode) (e : Instance) (p : Prices) → AllByRecursion (Names e) (failures_of_budgets m e p)
 budget-names m e p = grind arith
-
-pub unapproved-name : (e : Instance) (p : Prices) → AllByRecursion (λ (q : ℕ × ℕ). IsProject e q.1) (culprits_of_C1 e p)
-unapproved-name e p = grind (arith, all-flat_map, all-every, all-map, all-filter, projects-are)
 
 pub payment-names : (e : Instance) (w : List Bool) (p : Prices) → AllByRecursion (Names e) (failures_of_payments e w p)
 payment-names e w p =
@@ -128,26 +117,32 @@ violation_names_projects worth e w s t v is set = grind (arith, first-demanded, 
 abbrev pub NamesWeighted : Instance → RefutationFailure → Type 0
 NamesWeighted e f = NamesProject e (refutation_failed f)
 
-pub refutation-names : (e : Instance) (w : List Bool) (r : Weights)
-    → AllByRecursion (NamesWeighted e) (refutation_failures_of e w r)
-refutation-names e w r =
+pub refutation-names : (counted : ℕ) (e : Instance) (w : List Bool) (r : Weights)
+    → AllByRecursion (NamesWeighted e) (refutation_failures_of counted e w r)
+refutation-names counted e w r =
     all-append (NamesWeighted e) _ _
     (all-append (NamesWeighted e) _ _
     (all-map (NamesWeighted e) refutation_failure.U1 (culprits_of_U1 e w r)
     (all-filter (IsProject e) _ (all_projects e) (projects-are e)))
-    (all-if (NamesWeighted e) (nat_lt (budgets_taken e w r) (budgets_counted e w r)) (refutation_failure.U2 ∷ []) []
+    (all-if (NamesWeighted e) (nat_lt (budgets_taken e w r) counted) (refutation_failure.U2 ∷ []) []
     (tt, tt) tt))
     (all-if (NamesWeighted e) (costs_agree (at_most e w r) (at_least e w r) r.cover) (refutation_failure.U3 ∷ []) []
     (tt, tt) tt)
 
-first-weighted : (e : Instance) (cover : ℕ) (o : Option RefutationFailure) → IfSome o (NamesWeighted e)
-    → RefutationNamesProject e (refutation_verdict_of cover o)
-first-weighted e cover None h = grind arith
-first-weighted e cover (Some f) h = h
+first-weighted : (e : Instance) (stable : Bool) (cover : ℕ) (o n : Option RefutationFailure)
+    → IfSome o (NamesWeighted e) → IfSome n (NamesWeighted e) → RefutationNamesProject e (verdict_by stable cover o n)
+first-weighted e stable cover None n h k = grind arith
+first-weighted e false cover (Some f) n h k = h
+first-weighted e true cover (Some f) None h k = grind arith
+first-weighted e true cover (Some f) (Some g) h k = k
 
-pub refutation_names_projects : (e : Instance) (w : List Bool) (r : Weights) (v : RefutationVerdict)
-    → v ≡ refutation_verdict_of r.cover (FirstU e w r) → RefutationNamesProject e v
-refutation_names_projects e w r v is = grind (arith, first-weighted, all-first, refutation-names)
+pub refutation_names_projects : (stable : Bool) (e : Instance) (w : List Bool) (r : Weights) (v : RefutationVerdict)
+    → v ≡ refutation_verdict stable e w r → RefutationNamesProject e v
+refutation_names_projects stable e w r v is =
+    subst (RefutationNamesProject e) (sym is)
+    (first-weighted e stable r.cover (FirstU e w r) (FirstStableU e w r)
+    (all-first (NamesWeighted e) _ (refutation-names (budgets_counted e w r) e w r))
+    (all-first (NamesWeighted e) _ (refutation-names (stable_budgets_counted e w r) e w r)))
 
 -- the denominator of prices that are stated
 pub denominator-low : (input : InputName) (e : Instance) (d : Delivery) (p : Prices) → StatesPrices input e d (Ok p)

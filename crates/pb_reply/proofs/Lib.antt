@@ -1,3 +1,4 @@
 pub mod Takings
 pub mod Culprits
+pub mod Groups
 pub mod Promises

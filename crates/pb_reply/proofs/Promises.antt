@@ -1,25 +1,26 @@
 -- What an answer promises where no input was refused.
-use Rattle.std.proofs.Common.{◌≡◌, ◌≤◌, refl, Bool, true, false, List, Option, ℕ, if◌then◌else◌, arith, subst}
-use Rattle.std.specs.Prelude.{Err, None, Ok, Some}
+use Rattle.std.proofs.Common.{◌≡◌, ◌≤◌, ◌⊎◌, refl, Bool, true, false, List, Option, ℕ, inl, inr, arith, subst}
+use Rattle.std.specs.Prelude.{◌↔◌, Err, None, Ok, Some}
 use Rattle.pb_election.specs.Instance.{Instance}
 use Rattle.pb_records.specs.Loading.{Delivery}
 use Rattle.pb_certificate.specs.Prices.{Prices}
 use Rattle.pb_certificate.specs.Refutations.{Weights}
 use Rattle.pb_certificate.specs.declared.violations.measure.Measure.{Measure}
-use Rattle.pb_cohesion.specs.FirstU.{FirstU, refutation_verdict_of}
+use Rattle.pb_cohesion.specs.FirstU.{SaysUnpriceable, SaysUnpriceableStable, refutation_verdict as verdict_on_weights}
 use Rattle.pb_cohesion.specs.FirstV.{FirstV, violation_verdict_of}
-use Rattle.pb_cohesion.specs.Refutations.{Refutes}
+use Rattle.pb_cohesion.specs.Refutations.{Refutes, RefutesAsked, RefutesStable}
 use Rattle.pb_cohesion.specs.Satisfactions.{worth_by}
-use Rattle.pb_cohesion.specs.declared.RefutationFailure.{RefutationFailure}
+use Rattle.pb_cohesion.specs.declared.RefutationVerdict.{RefutationVerdict}
 use Rattle.pb_cohesion.specs.declared.RefutationVerdict.TheVariants as refutation_verdict
-use Rattle.pb_cohesion.proofs.Refuted.{refutes-iff}
+use Rattle.pb_cohesion.proofs.Refuted.{says-asked}
 use Rattle.pb_cohesion.proofs.Refuting.{none_support, none_with_cover_support}
+use Rattle.pb_cohesion.proofs.RefutingStable.{none_stable_support, none_stable_with_cover_support, stable-from-plain}
 use Rattle.pb_cohesion.proofs.Shares.{demands_reach, no_demand_passed_over}
-use Rattle.pb_cohesion.proofs.Verdicts.{violates-iff}
+use Rattle.pb_cohesion.proofs.Verdicts.{through, violates-iff}
 use Rattle.pb_price.specs.First.{First, verdict_of}
 use Rattle.pb_price.specs.declared.Failure.{Failure}
 use Rattle.pb_price.specs.declared.Mode.{Mode}
-use Rattle.pb_price.proofs.Groups.{budgets, fair, groups, no-violation, passes-nobody-over, plain-no, plain-yes, shares, stable-no, stable-yes, unrefuted}
+use Rattle.pb_price.proofs.Groups.{budgets, ejr-plus, fair, groups, no-violation, passes-nobody-over, plain-no, plain-yes, shares, stable-no, stable-yes, unrefuted, unrefuted-stable}
 use Rattle.pb_price.proofs.FirstFalse.{supports-iff}
 use Rattle.pb_certificate.specs.declared.kind.Kind.{Kind}
 use Rattle.pb_certificate.specs.declared.kind.Kind.TheVariants as kind
@@ -56,8 +57,10 @@ prices_promise m input e w d p given = by_first (First m e w p) refl
       demand_yes = λ yes' reached. demands_reach e w (shares m e w p low is reached);
       pjr_yes = λ yes' strict. no_demand_passed_over e w (passes-nobody-over m e w p low is strict);
       unrefuted_yes = λ yes'. unrefuted m e w p low is;
+      unrefuted_stable_yes = λ yes' stable. unrefuted-stable m e w p low is stable;
       fair_yes = λ yes' stable. fair m e w p is stable;
       covered_yes = λ yes' stable strict. no-violation m e w p low is stable strict;
+      ejr_plus_yes = λ yes' stable strict. ejr-plus m e w p low is stable strict;
       plain_no = λ c h. plain-no m e w p c h;
       stable_no = λ c h. stable-no m e w p c h;
     }
@@ -72,8 +75,10 @@ prices_promise m input e w d p given = by_first (First m e w p) refl
       demand_yes = λ yes' reached. no-yes yes';
       pjr_yes = λ yes' strict. no-yes yes';
       unrefuted_yes = λ yes'. no-yes yes';
+      unrefuted_stable_yes = λ yes' stable. no-yes yes';
       fair_yes = λ yes' stable. no-yes yes';
       covered_yes = λ yes' stable strict. no-yes yes';
+      ejr_plus_yes = λ yes' stable strict. no-yes yes';
       plain_no = λ c h. plain-no m e w p c h;
       stable_no = λ c h. stable-no m e w p c h;
     }
@@ -83,33 +88,48 @@ pub violation_promises : (e : Instance) (w : List Bool) (claim : Measure × List
     → ViolationPromises (violation_status (violation_verdict_of (FirstV (worth_by claim.0 e) e w claim.1 claim.2))) e w claim
 violation_promises e w claim = grind (arith, violates-iff, no-yes)
 
--- both verdicts where no test fails are a yes
-either-yes : (is_whatever : Bool)
-    → refutation_status
-    (if is_whatever then refutation_verdict.Unpriceable else refutation_verdict.UnpriceableUnderCover)
-    ≡ Yes
-either-yes true = refl
-either-yes false = refl
+-- the status is a yes exactly where the verdict says that no prices support the outcome, or no stable ones
+status-says : (v : RefutationVerdict)
+    → (refutation_status v ≡ Yes) ↔ (SaysUnpriceable v ⊎ SaysUnpriceableStable v)
+status-says refutation_verdict.Unpriceable = (λ h. inl (inl refl), λ h. refl)
+status-says refutation_verdict.UnpriceableUnderCover = (λ h. inl (inr refl), λ h. refl)
+status-says refutation_verdict.UnpriceableStable = (λ h. inr (inl refl), λ h. refl)
+status-says refutation_verdict.UnpriceableStableUnderCover = (λ h. inr (inr refl), λ h. refl)
+status-says (refutation_verdict.Failed f) = (
+  λ h. no-yes h,
+  λ h. elim h [
+    | inl plain ↦ (elim plain [ inl e ↦ cc | inr e ↦ cc ])
+    | inr stable ↦ (elim stable [ inl e ↦ cc | inr e ↦ cc ])
+  ],
+)
+
+-- weights that refute what is asked about refute stable prices
+asked-stable : (stable : Bool) (e : Instance) (w : List Bool) (r : Weights) → RefutesAsked stable e w r
+    → RefutesStable e w r
+asked-stable false e w r refutes = stable-from-plain e w r refutes
+asked-stable true e w r refutes = refutes
+
+plain-asked : (stable : Bool) (e : Instance) (w : List Bool) (r : Weights) → Refutes e w r → RefutesAsked stable e w r
+plain-asked false e w r refutes = refutes
+plain-asked true e w r refutes = stable-from-plain e w r refutes
 
 -- what a verdict on weights promises
-pub refutation_promises : (e : Instance) (w : List Bool) (r : Weights)
-    → RefutationPromises (refutation_status (refutation_verdict_of r.cover (FirstU e w r))) e w r
-refutation_promises e w r = by_first (FirstU e w r) refl
+pub refutation_promises : (stable : Bool) (e : Instance) (w : List Bool) (r : Weights)
+    → RefutationPromises stable (refutation_status (verdict_on_weights stable e w r)) e w r
+refutation_promises stable e w r = record {
+  exactly = exactly;
+  whatever_yes = λ refutes none. (exactly.1 (plain-asked stable e w r refutes), none_support e w r refutes none);
+  cover_yes = λ refutes some. (
+    exactly.1 (plain-asked stable e w r refutes),
+    none_with_cover_support e w r refutes some,
+  );
+  stable_yes = λ yes' none. none_stable_support e w r (asked-stable stable e w r (exactly.0 yes')) none;
+  stable_cover_yes = λ yes' some.
+      none_stable_with_cover_support e w r (asked-stable stable e w r (exactly.0 yes')) some;
+}
   where
-    by_first : (f : Option RefutationFailure) → FirstU e w r ≡ f
-        → RefutationPromises (refutation_status (refutation_verdict_of r.cover f)) e w r
-    by_first None is =
-        let refutes : Refutes e w r = (refutes-iff e w r).0 is in
-        record {
-          exactly = (λ yes'. refutes, λ h. either-yes _);
-          whatever_yes = λ yes' none. none_support e w r refutes none;
-          cover_yes = λ yes' some. none_with_cover_support e w r refutes some;
-        }
-    by_first (Some f) is = record {
-      exactly = (λ yes'. no-yes yes', λ h. let none : FirstU e w r ≡ None = (refutes-iff e w r).1 h in cc);
-      whatever_yes = λ yes' none. no-yes yes';
-      cover_yes = λ yes' some. no-yes yes';
-    }
+    exactly : (refutation_status (verdict_on_weights stable e w r) ≡ Yes) ↔ RefutesAsked stable e w r
+    exactly = through (status-says (verdict_on_weights stable e w r)) (says-asked stable e w r)
 
 -- a certificate that states prices is taken as prices, and states them as such
 prices_stated : (k : Kind) (e : Instance) (d : Delivery) (p : Prices) → StatesKind k e d (Ok (OfPrices p))
@@ -130,4 +150,4 @@ pub certificate_promises : (m : Mode) (e : Instance) (w : List Bool) (d : Delive
 certificate_promises m e w d (OfPrices p) given =
     prices_promise m name.Certificate e w d p (prices_stated (kind_in d) e d p given)
 certificate_promises m e w d (OfViolation v) given = violation_promises e w v
-certificate_promises m e w d (OfRefutation r) given = refutation_promises e w r
+certificate_promises m e w d (OfRefutation r) given = refutation_promises m.stable e w r

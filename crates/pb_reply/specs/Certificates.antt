@@ -10,7 +10,7 @@ use Rattle.pb_certificate.specs.Refutations.{Weights}
 use Rattle.pb_certificate.specs.declared.kind.Kind.{Kind}
 use Rattle.pb_certificate.specs.declared.kind.Kind.TheVariants as kind
 use Rattle.pb_certificate.specs.declared.violations.measure.Measure.{Measure}
-use Rattle.pb_cohesion.specs.FirstU.{FirstU, refutation_verdict_of}
+use Rattle.pb_cohesion.specs.FirstU.{refutation_verdict}
 use Rattle.pb_cohesion.specs.FirstV.{FirstV, violation_verdict_of}
 use Rattle.pb_cohesion.specs.Satisfactions.{worth_by}
 use Rattle.pb_price.specs.First.{First, verdict_of}
@@ -54,9 +54,9 @@ abbrev pub StatesCertificate : Instance → Delivery → Stated Certificate → 
 StatesCertificate e d stated = StatesKind (kind_in d) e d stated
 
 -- how the audit of a certificate ends: yes where the prices support the outcome, the group and its demand are a
--- violation, or the weights refute all prices
+-- violation, or the weights refute all prices, or where stable prices are asked about those
 abbrev pub certificate_status : Mode → Instance → List Bool → Certificate → Status
 certificate_status m e w (OfPrices p) = price_status (verdict_of (First m e w p))
 certificate_status m e w (OfViolation v) =
     violation_status (violation_verdict_of (FirstV (worth_by v.0 e) e w v.1 v.2))
-certificate_status m e w (OfRefutation r) = refutation_status (refutation_verdict_of r.cover (FirstU e w r))
+certificate_status m e w (OfRefutation r) = refutation_status (refutation_verdict m.stable e w r)

@@ -1,8 +1,13 @@
 -- The printed lines, without their ends.
-use Rattle.std.specs.Prelude.{◌==◌, if◌then◌else◌, Bool, ℕ, List, [], ◌∷◌, ◌++◌, count_by, Option, Some, None, codes, decimal}
+use Rattle.std.specs.Prelude.{◌==◌, nat_lt, if◌then◌else◌, Bool, ℕ, List, [], ◌∷◌, ◌++◌, count_by, Option, Some, None, codes, decimal}
 use Rattle.std.specs.Option.{option_map}
 use Rattle.pb_election.specs.Instance.{Instance, id_of, projects, voters}
+use Rattle.pb_cohesion.specs.Outcome.{total}
 use Rattle.pb_election.specs.declared.columns.UnusedColumns.{UnusedColumns}
+use Rattle.pb_certificate.specs.declared.violations.measure.Measure.{Measure}
+use Rattle.pb_certificate.specs.declared.violations.measure.Measure.TheVariants.{ByCount, ByCost}
+use Rattle.pb_cohesion.specs.declared.GroupsVerdict.{GroupsVerdict}
+use Rattle.pb_cohesion.specs.declared.GroupsVerdict.TheVariants as groups_verdict
 use Rattle.pb_cohesion.specs.declared.RefutationFailure.{RefutationFailure}
 use Rattle.pb_cohesion.specs.declared.RefutationFailure.TheVariants.{U1, U2, U3}
 use Rattle.pb_cohesion.specs.declared.RefutationVerdict.{RefutationVerdict}
@@ -71,6 +76,13 @@ notes e =
     ++ selected_note e.other_selected
     ++ column_notes e.unused
 
+-- the note on an outcome that costs more than the limit
+abbrev pub limit_words : Text
+limit_words = codes "note: the funded projects cost more than the limit"
+
+abbrev pub limit_note : Instance → List Bool → List Text
+limit_note e w = if nat_lt e.limit (total e w) then limit_words ∷ [] else []
+
 -- a condition or a test that fails: its name, and the voter and the project at which it does
 pub record Failed : Type 0 where
   pub name : Text
@@ -124,7 +136,21 @@ refutation_failed U3 = record { name = codes "U3"; voter = None; project = None 
 abbrev pub refutation_line : Instance → RefutationVerdict → Text
 refutation_line e refutation_verdict.Unpriceable = codes "unpriceable"
 refutation_line e refutation_verdict.UnpriceableUnderCover = codes "unpriceable cover"
+refutation_line e refutation_verdict.UnpriceableStable = codes "unpriceable stable"
+refutation_line e refutation_verdict.UnpriceableStableUnderCover = codes "unpriceable stable cover"
 refutation_line e (refutation_verdict.Failed f) = failed_line e (refutation_failed f)
+
+-- the line of a verdict on groups that fall short, by a measure
+abbrev pub measure_words : Measure → Text
+measure_words ByCount = codes "by count"
+measure_words ByCost = codes "by cost"
+
+abbrev pub groups_failed_line : Text → ℕ → Text → Text
+groups_failed_line words k id = codes "failed EJR+ " ++ words ++ codes " voters " ++ decimal k ++ codes " project " ++ id
+
+abbrev pub groups_line : Measure → Instance → GroupsVerdict → Text
+groups_line m e groups_verdict.Satisfied = codes "satisfied ejr+ " ++ measure_words m
+groups_line m e (groups_verdict.Failed c k) = groups_failed_line (measure_words m) k (id_of e c)
 
 -- the line of a refusal
 abbrev pub refusal_line : InputRefusal → Text

@@ -1,6 +1,8 @@
 -- The projects that verdicts name are those of the election.
 use Rattle.std.specs.Prelude.{IfSome}
 use Rattle.pb_election.specs.Instance.{Instance, IsProject}
+use Rattle.pb_cohesion.specs.declared.GroupsVerdict.{GroupsVerdict}
+use Rattle.pb_cohesion.specs.declared.GroupsVerdict.TheVariants as groups_verdict
 use Rattle.pb_cohesion.specs.declared.RefutationVerdict.{RefutationVerdict}
 use Rattle.pb_cohesion.specs.declared.RefutationVerdict.TheVariants as refutation_verdict
 use Rattle.pb_cohesion.specs.declared.ViolationVerdict.{ViolationVerdict}
@@ -23,4 +25,10 @@ ViolationNamesProject e (violation_verdict.Failed f) = NamesProject e (violation
 abbrev pub RefutationNamesProject : Instance → RefutationVerdict → Type 0
 RefutationNamesProject e refutation_verdict.Unpriceable = Unit {0}
 RefutationNamesProject e refutation_verdict.UnpriceableUnderCover = Unit {0}
+RefutationNamesProject e refutation_verdict.UnpriceableStable = Unit {0}
+RefutationNamesProject e refutation_verdict.UnpriceableStableUnderCover = Unit {0}
 RefutationNamesProject e (refutation_verdict.Failed f) = NamesProject e (refutation_failed f)
+
+abbrev pub GroupsNameProject : Instance → GroupsVerdict → Type 0
+GroupsNameProject e groups_verdict.Satisfied = Unit {0}
+GroupsNameProject e (groups_verdict.Failed c k) = IsProject e c

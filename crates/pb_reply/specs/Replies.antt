@@ -1,23 +1,30 @@
--- Replies and answers: what is found of some inputs, as lines or as a text, and how it ends.
+-- Replies and answers: what is found of some inputs, as lines, as a JSON object or as a text, and how it ends.
 use Rattle.std.specs.Prelude.{◌≡◌, List, [], ◌∷◌, ◌++◌, flat_map, Ok, Err}
+use Rattle.serde_json.specs.Written.{compact_text}
 use Rattle.pb_records.specs.Records.{Text}
 use Rattle.pb_certificate.specs.Prices.Canon.{line_end}
+use Rattle.pb_cohesion.specs.declared.GroupsVerdict.{GroupsVerdict}
+use Rattle.pb_cohesion.specs.declared.GroupsVerdict.TheVariants as groups_verdict
 use Rattle.pb_cohesion.specs.declared.RefutationVerdict.{RefutationVerdict}
 use Rattle.pb_cohesion.specs.declared.RefutationVerdict.TheVariants as refutation_verdict
 use Rattle.pb_cohesion.specs.declared.ViolationVerdict.{ViolationVerdict}
 use Rattle.pb_cohesion.specs.declared.ViolationVerdict.TheVariants as violation_verdict
 use Rattle.pb_price.specs.declared.Verdict.{Verdict}
 use Rattle.pb_price.specs.declared.Verdict.TheVariants as verdict
+use Rattle.pb_json.specs.Answers.{refusal_json}
 use Rattle.pb_reply.specs.Inputs.{Stated}
 use Rattle.pb_reply.specs.Lines.{refusal_line}
 use Rattle.pb_input.specs.declared.InputRefusal.{InputRefusal}
+use Rattle.pb_reply.specs.declared.answer.Format.{Format}
+use Rattle.pb_reply.specs.declared.answer.Format.TheVariants.{Lines, Json, JsonAndLines}
 use Rattle.pb_reply.specs.declared.status.Status.{Status}
 use Rattle.pb_reply.specs.declared.status.Status.TheVariants.{Yes, No, Refused}
 use Rattle.pb_reply.specs.declared.status.Unmet.TheVariants as unmet
 
--- a reply: its lines, and how it ends
+-- a reply: its lines, the same as the text of a JSON object, and how it ends
 pub record Reply : Type 0 where
   pub lines : List Text
+  pub json : Text
   pub status : Status
 
 -- an answer: its text, and how it ends, by a status of some kind
@@ -32,9 +39,15 @@ text_of lines = flat_map (λ l. l ++ (line_end ∷ [])) lines
 abbrev pub answer_of : Reply → Answer Status
 answer_of reply = record { text = text_of reply.lines; status = reply.status }
 
--- the reply on an input that is refused: the line of the refusal, and the refusal
+-- the answer in a format: the lines, or the object in a line, or that line and the others behind it
+abbrev pub answer_as : Format → Reply → Answer Status
+answer_as Lines reply = answer_of reply
+answer_as Json reply = record { text = text_of (reply.json ∷ []); status = reply.status }
+answer_as JsonAndLines reply = record { text = text_of (reply.json ∷ reply.lines); status = reply.status }
+
+-- the reply on an input that is refused: the line of the refusal, the same as an object, and the refusal
 abbrev pub refused : InputRefusal → Reply
-refused r = record { lines = refusal_line r ∷ []; status = Refused r }
+refused r = record { lines = refusal_line r ∷ []; json = compact_text (refusal_json r); status = Refused r }
 
 -- the reply on an input: the first that is refused decides
 abbrev pub with_input : {A : Type 0} → Stated A → (A → Reply) → Reply
@@ -53,10 +66,16 @@ violation_status (violation_verdict.Failed f) = No (unmet.Violation f)
 abbrev pub refutation_status : RefutationVerdict → Status
 refutation_status refutation_verdict.Unpriceable = Yes
 refutation_status refutation_verdict.UnpriceableUnderCover = Yes
+refutation_status refutation_verdict.UnpriceableStable = Yes
+refutation_status refutation_verdict.UnpriceableStableUnderCover = Yes
 refutation_status (refutation_verdict.Failed f) = No (unmet.Refutation f)
 
--- the answer is the text of one of these replies
-pub record TellsReply (is_reply : Reply → Type 0) (answer : Answer Status) : Type 0 where
+abbrev pub groups_status : GroupsVerdict → Status
+groups_status groups_verdict.Satisfied = Yes
+groups_status (groups_verdict.Failed c k) = No (unmet.Groups c k)
+
+-- the answer is the text of one of these replies in a format
+pub record TellsReply (format : Format) (is_reply : Reply → Type 0) (answer : Answer Status) : Type 0 where
   pub reply : Reply
   pub of_inputs : is_reply reply
-  pub out : answer ≡ answer_of reply
+  pub out : answer ≡ answer_as format reply

@@ -5,6 +5,7 @@ use Rattle.std.specs.Io.KnownBytes.{Appends}
 use Rattle.pb_records.specs.Loading.{AppendsFront, IsFlushed, Rises, WriteCounts}
 use Rattle.pb_records.specs.declared.loading.Sink.{Ghosts as Sink}
 use Rattle.pb_reply.specs.Replies.{Answer, Reply, TellsReply}
+use Rattle.pb_reply.specs.declared.answer.Format.{Format}
 use Rattle.pb_reply.specs.declared.status.Fault.{Fault}
 use Rattle.pb_reply.specs.declared.status.Fault.TheVariants as fault
 use Rattle.pb_reply.specs.declared.status.Status.{Status}
@@ -42,6 +43,6 @@ pub record Writes {W S : Type 0} (sink : Sink W) (is_answer : Answer S → Type 
   pub cut_short : IsErrOf result fault.Write → IsCutShort is_answer (writer sink old) (writer sink new)
   pub untouched : IsErrOf result fault.Memory → new ≡ old
 
--- the same where the answer is the text of one of these replies
-abbrev pub WritesReply : {W : Type 0} → Sink W → (Reply → Type 0) → Result Status Fault → W → W → Type 0
-WritesReply sink is_reply result old new = Writes sink (TellsReply is_reply) result old new
+-- the same where the answer is the text of one of these replies in a format
+abbrev pub WritesReply : {W : Type 0} → Format → Sink W → (Reply → Type 0) → Result Status Fault → W → W → Type 0
+WritesReply format sink is_reply result old new = Writes sink (TellsReply format is_reply) result old new

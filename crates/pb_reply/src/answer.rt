@@ -1,6 +1,6 @@
 //! Replies, the texts that are made of them, and how a text is written.
 ghost use Rattle.std.specs.Prelude.{◌≡◌, ◌∷◌, ◌++◌, [], IfOk, OnOk, Some, map, string_bytes};
-ghost use Rattle.pb_reply.specs.Replies.{answer_of, text_of};
+ghost use Rattle.pb_reply.specs.Replies.{answer_as, answer_of, text_of};
 ghost use Rattle.pb_reply.specs.Replies as replies;
 ghost use Rattle.pb_reply.specs.Inside.Taking as spec;
 ghost use Rattle.pb_reply.specs.Writing.{Writes};
@@ -9,14 +9,28 @@ use crate::lines::{push_line, refusal_line};
 use crate::{Fault, Status, Stop};
 use pb_election::{Sink, put};
 use pb_input::InputRefusal;
+use pb_json::{json_text, refusal_json};
 use std::alloc::{AllocError, Global};
 use std::marker::Model;
 
-/// What was found: some lines, without their ends, and how it ends.
+/// As what a reply is written.
+#[derive(Clone, Copy, Debug, PartialEq, Eq)]
+pub enum Format {
+    /// As lines for people.
+    Lines,
+    /// As one JSON object for programs, in a line.
+    Json,
+    /// As that object, and behind it the lines.
+    JsonAndLines,
+}
+
+/// What was found: the same as lines and as a JSON object, and how it ends.
 #[derive(Drop)]
 pub struct Reply {
     /// The lines, each without its end.
     pub lines: Vec<String>,
+    /// The object, as a text without the end of its line.
+    pub json: String,
     /// How it ends.
     pub status: Status,
 }
@@ -27,10 +41,36 @@ impl Model for Reply {
 
     ghost Value = { Reply };
 
-    ghost view = { λ r. record { lines = map string_bytes r.lines.items; status = r.status } };
+    ghost view = { λ r. record { lines = map string_bytes r.lines.items; json = string_bytes r.json; status = r.status } };
 }
 
 impl Reply {
+    /// The text of the reply in a format.
+    pub fn answer_as(&self, alloc: Global, format: Format) -> Result<Answer<Status>, AllocError>
+        ensures { IfOk result (λ answer. answer ≡ answer_as format self.now) }
+    {
+        match format {
+            Format::Lines => self.answer(alloc),
+            Format::Json => {
+                let mut text = String::new(alloc);
+                push_line(&mut text, &self.json)?;
+                Ok(Answer {
+                    text: text.into_bytes(),
+                    status: self.status,
+                })
+            }
+            Format::JsonAndLines => {
+                let mut text = String::new(alloc);
+                push_line(&mut text, &self.json)?;
+                push_lines(&mut text, &self.lines)?;
+                Ok(Answer {
+                    text: text.into_bytes(),
+                    status: self.status,
+                })
+            }
+        }
+    }
+
     /// The text of the reply: each line with its end, LF.
     pub fn answer(&self, alloc: Global) -> Result<Answer<Status>, AllocError>
         ensures { IfOk result (λ answer. answer ≡ answer_of self.now) }
@@ -81,14 +121,7 @@ impl<S: Copy> Answer<S> {
     }
 }
 
-/// Writes the text of a reply.
-pub fn write_reply<W: Sink>(alloc: Global, reply: &Reply, out: &mut W) -> Result<Status, Fault>
-    ensures { Writes W.Sink (λ answer. answer ≡ answer_of reply.now) result out.old out.new }
-{
-    reply.answer(alloc)?.write(out)
-}
-
-/// What is told of a reply: its lines, or its text.
+/// What is told of a reply: itself, or its text as lines.
 pub trait Telling: Sized + Drop {
     ghost told: { replies.Reply → Self };
 
@@ -150,14 +183,25 @@ pub fn refused(alloc: Global, refusal: InputRefusal) -> Result<Reply, AllocError
     ensures { IfOk result (λ reply. reply ≡ replies.refused refusal) }
 {
     let line = refusal_line(alloc, &refusal)?;
-    one_line(alloc, line, Status::Refused(refusal))
+    let object = refusal_json(alloc, &refusal)?;
+    let json = json_text(alloc, &object)?;
+    one_line(alloc, line, json, Status::Refused(refusal))
 }
 
-/// A reply of one line.
-pub fn one_line(alloc: Global, line: String, status: Status) -> Result<Reply, AllocError>
-    ensures { IfOk result (λ reply. reply ≡ record { lines = string_bytes line ∷ []; status = status }) }
+/// A reply of one line, and of the same as the text of a JSON object.
+pub fn one_line(
+    alloc: Global,
+    line: String,
+    json: String,
+    status: Status,
+) -> Result<Reply, AllocError>
+    ensures { IfOk result (λ reply. reply ≡ record { lines = string_bytes line ∷ []; json = string_bytes json; status = status }) }
 {
     let mut lines = Vec::new(alloc);
     lines.push(line)?;
-    Ok(Reply { lines, status })
+    Ok(Reply {
+        lines,
+        json,
+        status,
+    })
 }

@@ -10,9 +10,9 @@ mod stop;
 mod taking;
 mod verdict_lines;
 
-pub use answer::{Answer, Reply, Telling, one_line, refused, settled, stopped, write_reply};
+pub use answer::{Answer, Format, Reply, Telling, one_line, refused, settled, stopped};
 pub use given::{Given, Lend};
-pub use lines::{push_line, push_notes, read_line};
+pub use lines::{push_limit_note, push_line, push_notes, read_line};
 pub use loaded::{File, Loaded, bytes_of};
 pub use status::{Fault, Status, Unmet};
 pub use stop::{Stop, stop_at};
@@ -20,5 +20,6 @@ pub use taking::{
     election_of, kind_in, outcome_of, refutation_of, take_election, take_outcome, violation_of,
 };
 pub use verdict_lines::{
-    price_line, price_status, refutation_line, refutation_status, violation_line, violation_status,
+    groups_line, groups_status, price_line, price_status, refutation_line, refutation_status,
+    violation_line, violation_status,
 };

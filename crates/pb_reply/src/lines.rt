@@ -1,9 +1,11 @@
 //! The lines of the answers.
 ghost use Rattle.std.specs.Prelude.{◌≡◌, ◌∷◌, ◌++◌, [], IfOk, OnOk, map, string_bytes};
+ghost use Rattle.pb_election.specs.Outcome.{OutcomeFits};
 ghost use Rattle.pb_reply.specs.Replies.{text_of};
 ghost use Rattle.pb_reply.specs.Lines as spec;
 
-use pb_election::{Election, UnusedColumns};
+use pb_cohesion::cost_of_funded;
+use pb_election::{Election, Outcome, UnusedColumns};
 use pb_input::InputRefusal;
 use std::alloc::{AllocError, Global};
 
@@ -42,6 +44,28 @@ pub fn push_notes(
     push_count_notes(alloc, lines, election)?;
     push_selected_note(alloc, lines, election.other_selected())?;
     push_column_notes(alloc, lines, election.unused_columns())
+}
+
+/// Adds the note that the funded projects cost more than the limit, where they do. The outcome is to fit the election.
+pub fn push_limit_note(
+    alloc: Global,
+    lines: &mut Vec<String>,
+    election: &Election,
+    outcome: &Outcome,
+) -> Result<(), AllocError>
+    requires { OutcomeFits outcome.now election.now }
+    ensures { OnOk result (map string_bytes lines.new.items ≡ map string_bytes lines.old.items ++ spec.limit_note election.now (outcome.now).marks) }
+{
+    if cost_of_funded(election, outcome) <= u128::from(election.limit().millionths()) {
+        return Ok(());
+    }
+    push_whole(lines, limit_words(alloc)?)
+}
+
+fn limit_words(alloc: Global) -> Result<String, AllocError>
+    ensures { IfOk result (λ line. string_bytes line ≡ spec.limit_words) }
+{
+    String::from_str(alloc, "note: the funded projects cost more than the limit")
 }
 
 /// Adds a line to a list of lines.

@@ -20,7 +20,7 @@ pub enum Status {
     Refused(InputRefusal),
 }
 
-/// The first condition or test that does not hold, of a certificate or of each of two.
+/// What does not hold: the first condition or test of a certificate or of each of two, or what is asked of groups.
 #[derive(Clone, Copy, Debug, PartialEq, Eq)]
 pub enum Unmet {
     /// A condition on prices.
@@ -31,6 +31,13 @@ pub enum Unmet {
     Refutation(RefutationFailure),
     /// A condition on prices, and a test of the violation beside them.
     Both(Failure, ViolationFailure),
+    /// A group of voters falls short.
+    Groups {
+        /// The lowest project for which one does, numbered from 1.
+        project: u32,
+        /// How many voters the largest such group has.
+        voters: u32,
+    },
 }
 
 /// Why an answer was not written whole.

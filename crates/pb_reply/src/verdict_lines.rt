@@ -2,10 +2,13 @@
 ghost use Rattle.std.specs.Prelude.{◌≡◌, IfOk, string_bytes};
 ghost use Rattle.pb_reply.specs.Replies as replies;
 ghost use Rattle.pb_reply.specs.Lines as spec;
-ghost use Rattle.pb_reply.specs.Named.{NamesProject, PricesNameProject, RefutationNamesProject, ViolationNamesProject};
+ghost use Rattle.pb_reply.specs.Named.{GroupsNameProject, NamesProject, PricesNameProject, RefutationNamesProject, ViolationNamesProject};
 
 use crate::{Status, Unmet};
-use pb_cohesion::{RefutationFailure, RefutationVerdict, ViolationFailure, ViolationVerdict};
+use pb_certificate::Measure;
+use pb_cohesion::{
+    GroupsVerdict, RefutationFailure, RefutationVerdict, ViolationFailure, ViolationVerdict,
+};
 use pb_election::Election;
 use pb_price::{Failure, Verdict};
 use std::alloc::{AllocError, Global};
@@ -140,6 +143,10 @@ pub fn refutation_line(
     match verdict {
         RefutationVerdict::Unpriceable => String::from_str(alloc, "unpriceable"),
         RefutationVerdict::UnpriceableUnderCover => String::from_str(alloc, "unpriceable cover"),
+        RefutationVerdict::UnpriceableStable => String::from_str(alloc, "unpriceable stable"),
+        RefutationVerdict::UnpriceableStableUnderCover => {
+            String::from_str(alloc, "unpriceable stable cover")
+        }
         RefutationVerdict::Failed(failure) => failed_line(
             alloc,
             election,
@@ -152,8 +159,61 @@ pub fn refutation_status(verdict: RefutationVerdict) -> Status
     ensures { result ≡ replies.refutation_status verdict }
 {
     match verdict {
-        RefutationVerdict::Unpriceable | RefutationVerdict::UnpriceableUnderCover => Status::Yes,
+        RefutationVerdict::Unpriceable
+        | RefutationVerdict::UnpriceableUnderCover
+        | RefutationVerdict::UnpriceableStable
+        | RefutationVerdict::UnpriceableStableUnderCover => Status::Yes,
         RefutationVerdict::Failed(failure) => Status::No(Unmet::Refutation(failure)),
+    }
+}
+
+/// The line of a verdict on groups that fall short by this measure.
+pub fn groups_line(
+    alloc: Global,
+    election: &Election,
+    measure: Measure,
+    verdict: GroupsVerdict,
+) -> Result<String, AllocError>
+    requires { GroupsNameProject election.now verdict }
+    ensures { IfOk result (λ line. string_bytes line ≡ spec.groups_line measure election.now verdict) }
+{
+    let words = measure_words(measure);
+    match verdict {
+        GroupsVerdict::Satisfied => format!(in alloc; "satisfied ejr+ {words}"),
+        GroupsVerdict::Failed { project, voters } => {
+            groups_failed_line(alloc, words, voters, election.id(project))
+        }
+    }
+}
+
+fn groups_failed_line(
+    alloc: Global,
+    words: &str,
+    voters: u32,
+    id: &str,
+) -> Result<String, AllocError>
+    ensures { IfOk result (λ line. string_bytes line ≡ spec.groups_failed_line words.now voters id.now) }
+{
+    format!(in alloc; "failed EJR+ {words} voters {voters} project {id}")
+}
+
+fn measure_words(measure: Measure) -> &'static str
+    ensures { result.now ≡ spec.measure_words measure }
+{
+    match measure {
+        Measure::ByCount => "by count",
+        Measure::ByCost => "by cost",
+    }
+}
+
+pub fn groups_status(verdict: GroupsVerdict) -> Status
+    ensures { result ≡ replies.groups_status verdict }
+{
+    match verdict {
+        GroupsVerdict::Satisfied => Status::Yes,
+        GroupsVerdict::Failed { project, voters } => {
+            Status::No(Unmet::Groups { project, voters })
+        }
     }
 }
 

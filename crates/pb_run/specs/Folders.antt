@@ -53,6 +53,7 @@ pub record AddsEntry {S I : Type 0} (hands : S → S → Text → I → Type 0) 
     (folder : Text) (l : Listing) (name : Text) (old new : S) (report more : Progress) : Type 0 where
   pub files : Files
   pub loads : LoadsEntry hands delivers folder l name old new files
+  pub as_json : more.as_json ≡ report.as_json
   pub mode : more.mode ≡ report.mode
   pub taken : (entries : List Files) → HasTaken report entries → HasTaken more (entries ++ files ∷ [])
 
@@ -68,14 +69,14 @@ LoadsEach hands delivers folder l _ old new _ = ⊥
 abbrev pub names_of : Listing → List Text
 names_of l = map (λ s. string_bytes s) l.elections.keys
 
--- The report on a folder's elections and certificates: each election's files were handed out once, in the order of the
+-- The report on a folder's elections and certificates, as JSON or as lines: each election's files were handed out once, in the order of the
 -- names, and this is the report on what they delivered.
 pub record ReportsOn {S I : Type 0} (hands : S → S → Text → I → Type 0) (delivers : I → I → Delivery → Type 0)
-    (m : Mode) (folder : Text) (l : Listing) (old new : S) (report : Answer FolderStatus) : Type 0 where
+    (json : Bool) (m : Mode) (folder : Text) (l : Listing) (old new : S) (report : Answer FolderStatus) : Type 0 where
   pub ordered : IsOrdered string_cmp l.elections
   pub entries : List Files
   pub loaded : LoadsEach hands delivers folder l (names_of l) old new entries
-  pub report_of : ReportOf m entries report
+  pub report_of : ReportOf json m entries report
 
 -- the folder was listed, and has these elections and certificates
 pub record ListsFolder {S : Type 0} (lists : S → S → Text → List Entry → Type 0) (folder : Text) (old new : S)
@@ -86,9 +87,9 @@ pub record ListsFolder {S : Type 0} (lists : S → S → Text → List Entry →
 
 -- the report on a folder, as it was listed
 pub record ReportsFolder {S I : Type 0} (lists : S → S → Text → List Entry → Type 0)
-    (hands : S → S → Text → I → Type 0) (delivers : I → I → Delivery → Type 0) (m : Mode) (folder : Text) (old new : S)
-    (report : Answer FolderStatus) : Type 0 where
+    (hands : S → S → Text → I → Type 0) (delivers : I → I → Delivery → Type 0) (json : Bool) (m : Mode) (folder : Text)
+    (old new : S) (report : Answer FolderStatus) : Type 0 where
   pub listing : Listing
   pub after_listing : S
   pub listed : ListsFolder lists folder old after_listing listing
-  pub reported : ReportsOn hands delivers m folder listing after_listing new report
+  pub reported : ReportsOn hands delivers json m folder listing after_listing new report

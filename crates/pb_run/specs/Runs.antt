@@ -1,22 +1,23 @@
 -- Whole runs: which task the words ask for, what is written, and how a run ends.
-use Rattle.std.specs.Prelude.{◌≡◌, ◌⊎◌, ℕ, List, [], Option, Some, None, Result, Ok, Err, true}
+use Rattle.std.specs.Prelude.{◌≡◌, ◌⊎◌, Bool, ℕ, List, [], Option, Some, None, Result, Ok, Err, true}
 use Rattle.clap.specs.Words.{takes}
 use Rattle.pb_audit.specs.InTurn.{ReadsElection}
 use Rattle.pb_audit.specs.declared.total.FolderStatus.{FolderStatus}
 use Rattle.pb_command.specs.Commands.{pbaudit}
-use Rattle.pb_command.specs.Tasks.{Asked, TaskOf, language_fault}
+use Rattle.pb_command.specs.Tasks.{Asked, TaskOf, value_fault}
 use Rattle.pb_command.specs.Tasks as task
 use Rattle.pb_price.specs.declared.Mode.{Mode}
 use Rattle.pb_records.specs.Loading.{Delivery}
 use Rattle.pb_records.specs.Records.{Text}
 use Rattle.pb_records.specs.declared.loading.Sink.{Ghosts as Sink}
-use Rattle.pb_reply.specs.Replies.{Answer, TellsReply, answer_of, refused}
+use Rattle.pb_reply.specs.Replies.{Answer, TellsReply, answer_as, refused}
 use Rattle.pb_reply.specs.Turns.{turn}
 use Rattle.pb_reply.specs.Writing.{IsCutShort, IsWritten, writer}
+use Rattle.pb_reply.specs.declared.answer.Format.TheVariants.{Lines}
 use Rattle.pb_reply.specs.declared.status.Fault.{Fault}
 use Rattle.pb_reply.specs.declared.status.Fault.TheVariants as fault
 use Rattle.pb_reply.specs.declared.status.Status.{Status}
-use Rattle.pb_run.specs.Asking.{AnswersAt, Places, order}
+use Rattle.pb_run.specs.Asking.{AnswersAt, Places, format_of, order}
 use Rattle.pb_run.specs.Endings.{HasStatus, WritesNothingUnlessHelp}
 use Rattle.pb_run.specs.Folders.{ReportsFolder, unlisted}
 use Rattle.pb_run.specs.Listings.{Entry}
@@ -31,7 +32,7 @@ abbrev pub AnswersOrder : {S I R : Type 0} → (S → S → Text → I → Type 
 AnswersOrder hands delivers reads (Some it) old new input input' a =
     AnswersAt hands delivers it.0 it.1 old new a × (input' ≡ input)
 AnswersOrder hands delivers reads None old new input input' a =
-    TellsReply (ReadsElection (turn reads input input')) a × (new ≡ old)
+    TellsReply Lines (ReadsElection (turn reads input input')) a × (new ≡ old)
 
 abbrev pub AnswersTask : {S I R : Type 0} → (S → S → Text → I → Type 0) → (I → I → Delivery → Type 0)
     → (R → R → Delivery → Type 0) → Asked → S → S → R → R → Answer Status → Type 0
@@ -58,17 +59,17 @@ end_of (Err fault) = Faulted fault
 abbrev pub is_never : {A : Type 0} → A → Type 0
 is_never a = ⊥
 
--- a folder that can't be listed is refused
+-- the report on a folder, as JSON or as lines; one that can't be listed is refused, likewise
 abbrev pub EndsFolder : {S I W : Type 0} → (S → S → Text → List Entry → Type 0) → (S → S → Text → I → Type 0)
-    → (I → I → Delivery → Type 0) → Sink W → Mode → Text → End → S → S → W → W → Type 0
-EndsFolder lists hands delivers sink m folder end files files' =
-    Ends sink (λ a. a ≡ answer_of (refused unlisted))
-    (Once (λ then. ReportsFolder lists hands delivers m folder files then)) end
+    → (I → I → Delivery → Type 0) → Sink W → Bool → Mode → Text → End → S → S → W → W → Type 0
+EndsFolder lists hands delivers sink json m folder end files files' =
+    Ends sink (λ a. a ≡ answer_as (format_of json) (refused unlisted))
+    (Once (λ then. ReportsFolder lists hands delivers json m folder files then)) end
 
 abbrev pub EndsTask : {S I R W : Type 0} → (S → S → Text → List Entry → Type 0) → (S → S → Text → I → Type 0)
     → (I → I → Delivery → Type 0) → (R → R → Delivery → Type 0) → Sink W → Asked → End → S → S → R → R → W → W → Type 0
-EndsTask lists hands delivers reads sink (task.folder f m) end files files' input input' out out' =
-    EndsFolder lists hands delivers sink m f end files files' out out' × (input' ≡ input)
+EndsTask lists hands delivers reads sink (task.folder f m json) end files files' input input' out out' =
+    EndsFolder lists hands delivers sink json m f end files files' out out' × (input' ≡ input)
 EndsTask lists hands delivers reads sink it end files files' input input' out out' =
     Ends sink (Once (λ then. AnswersTask hands delivers reads it files then input input')) is_never end out out'
 
@@ -79,7 +80,7 @@ pub record IsIdle {S R W : Type 0} (words : List Text) (end : End) (files files'
   pub files_left : files' ≡ files
   pub input_left : input' ≡ input
   pub out_left : out' ≡ out
-  pub understood : takes pbaudit words ≡ true → language_fault (TaskOf words) ≡ [] → end ≡ Faulted fault.Memory
+  pub understood : takes pbaudit words ≡ true → value_fault (TaskOf words) ≡ [] → end ≡ Faulted fault.Memory
 
 -- the task that the words ask for was done
 pub record IsDone {S I R W : Type 0} (lists : S → S → Text → List Entry → Type 0) (hands : S → S → Text → I → Type 0)

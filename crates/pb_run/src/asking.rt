@@ -1,12 +1,13 @@
 //! What is asked of files at paths, and the answer.
 ghost use Rattle.std.specs.Prelude.{◌≡◌, [], IfOk, option_map};
-ghost use Rattle.pb_command.specs.Tasks.{asked, paths};
-ghost use Rattle.pb_run.specs.Asking.{AnswersAt, AnswersOn, HandsAll, HandsOutcome, alone, beside, order, places_of};
+ghost use Rattle.pb_command.specs.Tasks.{asked, outcome_paths, paths};
+ghost use Rattle.pb_run.specs.Asking.{AnswersAt, AnswersOn, HandsAll, HandsOutcome, alone, beside, format_of, of_outcome, order, places_of, with_outcome};
 
 use crate::files::Files;
-use pb_audit::{Answer, Question, Status, answer};
-use pb_command::{Inputs, Task};
-use pb_page::{Language, PageNames, page_answer};
+use pb_audit::{Answer, Format, Question, Status, answer};
+use pb_certificate::Measure;
+use pb_command::{Inputs, OutcomeInputs, Task};
+use pb_page::{Language, PageNames, groups_page_answer, page_answer};
 use pb_price::Mode;
 use pb_reply::Given;
 use std::alloc::{AllocError, Global};
@@ -14,10 +15,12 @@ use std::alloc::{AllocError, Global};
 /// What is asked of files.
 #[derive(Clone, Copy)]
 pub enum Ask {
-    /// One of the questions.
-    Question(Question),
+    /// One of the questions, and as what the answer is written.
+    Question(Question, Format),
     /// The page about a certificate.
     Page(Mode, Language),
+    /// The page about groups that fall short.
+    GroupsPage(Measure, Language),
 }
 
 /// The paths of the files of which something is asked. The path of a file that isn't asked for is empty.
@@ -52,6 +55,18 @@ impl<'a> Paths<'a> {
         }
     }
 
+    /// An election and its outcome.
+    fn of_outcome(inputs: &'a OutcomeInputs) -> Paths<'a>
+        ensures { places_of result ≡ with_outcome (outcome_paths inputs.now) }
+    {
+        Paths {
+            election: &inputs.election,
+            outcome: inputs.outcome.as_deref(),
+            certificate: "",
+            violation: "",
+        }
+    }
+
     /// The paths of a task, but for a violation certificate beside prices.
     fn of(inputs: &'a Inputs) -> Paths<'a>
         ensures { places_of result ≡ beside (paths inputs.now) [] }
@@ -70,9 +85,22 @@ pub fn asked_by(task: &Task) -> Option<(Paths<'_>, Ask)>
     ensures { option_map (λ r. (places_of r.0, r.1)) result ≡ order (asked task.now) }
 {
     let (inputs, ask) = match task {
-        Task::Read(None) | Task::Folder { .. } => return None,
-        Task::Read(Some(election)) => {
-            return Some((Paths::of_election(election), Ask::Question(Question::Read)));
+        Task::Read { election: None, .. } | Task::Folder { .. } => return None,
+        Task::Read {
+            election: Some(election),
+            json,
+        } => {
+            let ask = Ask::Question(Question::Read, format_of(*json));
+            return Some((Paths::of_election(election), ask));
+        }
+        Task::Groups { inputs, measure } => {
+            return Some(asked_of_outcome(inputs, Question::Groups(*measure)));
+        }
+        Task::ExplainGroups { inputs, measure } => {
+            return Some(asked_of_outcome(inputs, Question::ExplainGroups(*measure)));
+        }
+        Task::GroupMargins { inputs, measure } => {
+            return Some(asked_of_outcome(inputs, Question::GroupMargins(*measure)));
         }
         Task::Both {
             inputs,
@@ -83,21 +111,53 @@ pub fn asked_by(task: &Task) -> Option<(Paths<'_>, Ask)>
                 violation,
                 ..Paths::of(inputs)
             };
-            return Some((paths, Ask::Question(Question::Both(*mode))));
+            return Some((paths, questioned(inputs, Question::Both(*mode))));
         }
-        Task::Prices { inputs, mode } => (inputs, Ask::Question(Question::Prices(*mode))),
-        Task::Violation(inputs) => (inputs, Ask::Question(Question::Violation)),
-        Task::Refutation(inputs) => (inputs, Ask::Question(Question::Refutation)),
-        Task::Explain { inputs, mode } => (inputs, Ask::Question(Question::Explain(*mode))),
+        Task::Prices { inputs, mode } => (inputs, questioned(inputs, Question::Prices(*mode))),
+        Task::Violation(inputs) => (inputs, questioned(inputs, Question::Violation)),
+        Task::Refutation { inputs, stable } => {
+            (inputs, questioned(inputs, Question::Refutation(*stable)))
+        }
+        Task::Explain { inputs, mode } => (inputs, questioned(inputs, Question::Explain(*mode))),
         Task::Page {
             inputs,
             mode,
             language,
         } => (inputs, Ask::Page(*mode, *language)),
-        Task::Margins(inputs) => (inputs, Ask::Question(Question::Margins)),
-        Task::Tidy(inputs) => (inputs, Ask::Question(Question::Tidy)),
+        Task::GroupsPage {
+            inputs,
+            measure,
+            language,
+        } => return Some((
+            Paths::of_outcome(inputs),
+            Ask::GroupsPage(*measure, *language),
+        )),
+        Task::Margins(inputs) => (inputs, questioned(inputs, Question::Margins)),
+        Task::Tidy(inputs) => (inputs, questioned(inputs, Question::Tidy)),
     };
     Some((Paths::of(inputs), ask))
+}
+
+/// A question on an election and its outcome, in the format that is asked for.
+fn asked_of_outcome(inputs: &OutcomeInputs, question: Question) -> (Paths<'_>, Ask)
+    ensures { (places_of result.0, result.1) ≡ of_outcome (outcome_paths inputs.now) question }
+{
+    let ask = Ask::Question(question, format_of(inputs.json));
+    (Paths::of_outcome(inputs), ask)
+}
+
+/// A question on these inputs, in the format that is asked for.
+fn questioned(inputs: &Inputs, question: Question) -> Ask
+    ensures { result ≡ Ask.Question question (format_of (paths inputs.now).json) }
+{
+    Ask::Question(question, format_of(inputs.json))
+}
+
+/// As what an answer is written.
+pub(crate) fn format_of(json: bool) -> Format
+    ensures { result ≡ format_of json }
+{
+    if json { Format::Json } else { Format::Lines }
 }
 
 /// Answers what is asked of the files at these paths, and adds the notes on the election, and on a yes that says little,
@@ -156,14 +216,23 @@ fn answer_on<I: Given + Drop>(
     ensures { IfOk result (AnswersOn I.delivers ask handed.old handed.new) }
 {
     match ask {
-        Ask::Question(question) => answer(
+        Ask::Question(question, format) => answer(
             alloc,
+            format,
             question,
             &mut handed.election,
             &mut handed.outcome,
             &mut handed.certificate,
             &mut handed.violation,
             notes,
+        ),
+        Ask::GroupsPage(measure, language) => groups_page_answer(
+            alloc,
+            names,
+            &mut handed.election,
+            &mut handed.outcome,
+            measure,
+            language,
         ),
         Ask::Page(mode, language) => page_answer(
             alloc,

@@ -2,11 +2,13 @@
 ghost use Rattle.std.specs.Prelude.{◌≡◌, IfOk, option_map, string_bytes};
 ghost use Rattle.pb_audit.specs.Inside.Folders.{files_of};
 ghost use Rattle.pb_reply.specs.Inside.Loaded.{delivery_of};
-ghost use Rattle.pb_reply.specs.Replies.{answer_of, refused};
+ghost use Rattle.pb_reply.specs.Replies.{answer_as, refused};
 ghost use Rattle.pb_reply.specs.Writing.{Writes};
+ghost use Rattle.pb_run.specs.Asking.{format_of};
 ghost use Rattle.pb_run.specs.Folders.{AddsEntry, ListsFolder, Loads, LoadsBeside, LoadsEntry, ReportsOn, path_in, unlisted};
 ghost use Rattle.pb_run.specs.Runs.{EndsFolder, end_of};
 
+use crate::asking::format_of;
 use crate::end::End;
 use crate::files::Files;
 use crate::listed::ListFault;
@@ -21,7 +23,7 @@ use pb_audit::{
 use pb_election::Sink;
 use pb_hints::push_shown;
 use pb_price::Mode;
-use pb_reply::{Given, refused, write_reply};
+use pb_reply::{Given, refused};
 use std::alloc::{AllocError, Global};
 use std::io::{IsTerminal, Write};
 
@@ -42,7 +44,7 @@ const CLEAN: &str = "their names have control characters";
 
 const AS_THEY_ARE: &str = "the report has them as they are";
 
-/// Writes the report on a folder of elections on `out`, once the whole of it is there. Where `err` is a terminal, it
+/// Writes the report on a folder of elections on `out`, as lines or as JSON objects, once the whole of it is there. Where `err` is a terminal, it
 /// tells there how far it is. That the folder has no election, or can't be listed, is told on `err` as well, and so are
 /// files that may be meant to be audited and aren't.
 pub fn run_folder<F: Files, W: Sink, E: Write + IsTerminal>(
@@ -50,31 +52,33 @@ pub fn run_folder<F: Files, W: Sink, E: Write + IsTerminal>(
     files: &mut F,
     folder: &str,
     mode: Mode,
+    json: bool,
     out: &mut W,
     err: &mut E,
 ) -> Result<End, Fault>
-    ensures { EndsFolder F.lists F.hands F.Input.delivers W.Sink mode folder.now (end_of result) files.old files.new out.old out.new }
+    ensures { EndsFolder F.lists F.hands F.Input.delivers W.Sink json mode folder.now (end_of result) files.old files.new out.old out.new }
 {
     let listing = match listing_of(alloc, files, folder) {
         Ok(listing) => listing,
         Err(ListFault::Memory) => return Err(Fault::Memory),
         Err(ListFault::Unlisted(failure)) => {
-            let status = refuse(alloc, out)?;
+            let status = refuse(alloc, json, out)?;
             tell_unlisted(alloc, files, folder, failure, err);
             return Ok(End::Answered(status));
         }
     };
-    let status = write_report(alloc, files, folder, &listing, mode, out, err)?;
+    let status = write_report(alloc, files, folder, &listing, mode, json, out, err)?;
     tell_beside(alloc, &listing, err);
     Ok(End::Reported(status))
 }
 
 /// Writes that a folder can't be listed.
-fn refuse<W: Sink>(alloc: Global, out: &mut W) -> Result<Status, Fault>
-    ensures { Writes W.Sink (λ answer. answer ≡ answer_of (refused unlisted)) result out.old out.new }
+fn refuse<W: Sink>(alloc: Global, json: bool, out: &mut W) -> Result<Status, Fault>
+    ensures { Writes W.Sink (λ answer. answer ≡ answer_as (format_of json) (refused unlisted)) result out.old out.new }
 {
     let reply = refused(alloc, unlisted())?;
-    write_reply(alloc, &reply, out)
+    let answer = reply.answer_as(alloc, format_of(json))?;
+    answer.write(out)
 }
 
 /// Writes the report on the elections and the certificates of a folder.
@@ -84,13 +88,14 @@ fn write_report<F: Files, W: Sink, E: Write + IsTerminal>(
     folder: &str,
     listing: &Listing,
     mode: Mode,
+    json: bool,
     out: &mut W,
     err: &mut E,
 ) -> Result<FolderStatus, Fault>
-    ensures { Writes W.Sink (ReportsOn F.hands F.Input.delivers mode folder.now listing.now files.old files.new) result out.old out.new }
+    ensures { Writes W.Sink (ReportsOn F.hands F.Input.delivers json mode folder.now listing.now files.old files.new) result out.old out.new }
 {
     let mut progress = Progress::new(err, listing.elections().len());
-    let report = report(alloc, files, folder, listing, mode, &mut progress);
+    let report = report(alloc, files, folder, listing, mode, json, &mut progress);
     progress.clear();
     report?.write(out)
 }
@@ -173,11 +178,12 @@ pub fn report<F: Files, E: Write + IsTerminal>(
     folder: &str,
     listing: &Listing,
     mode: Mode,
+    json: bool,
     progress: &mut Progress<'_, E>,
 ) -> Result<Answer<FolderStatus>, AllocError>
-    ensures { IfOk result (ReportsOn F.hands F.Input.delivers mode folder.now listing.now files.old files.new) }
+    ensures { IfOk result (ReportsOn F.hands F.Input.delivers json mode folder.now listing.now files.old files.new) }
 {
-    let mut report = FolderReport::new(alloc, mode);
+    let mut report = FolderReport::new(alloc, json, mode);
     for name in listing.elections() {
         progress.tell(name);
         report = add_entry(alloc, files, folder, listing, name, report)?;

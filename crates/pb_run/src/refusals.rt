@@ -2,7 +2,7 @@
 use crate::files::Files;
 use pb_audit::{InputFault, InputName, InputRefusal};
 use pb_certificate::CertFault;
-use pb_command::Task;
+use pb_command::{OutcomeInputs, Task};
 use pb_hints::{FileKind, Remark, hint, push_quoted, push_shown};
 use std::alloc::{AllocError, Global};
 use std::io;
@@ -28,12 +28,15 @@ pub fn tell_hint<F: Files, E: Write>(
     }
 }
 
-/// Tells on `err` the notes on the election of a task, a line for each. What `err` does not take is lost, and nothing is
-/// told if memory runs out.
+/// Tells on `err` the notes on the election of a task, a line for each; those of `read` are part of its answer. What `err`
+/// does not take is lost, and nothing is told if memory runs out.
 pub fn tell_notes<E: Write>(alloc: Global, task: &Task, notes: &[String], err: &mut E) {
     let Some((_, Some(path))) = input_of(task, InputName::Election) else {
         return;
     };
+    if let Task::Read { .. } = task {
+        return;
+    }
     let mut text = String::new(alloc);
     let pushed = notes
         .iter()
@@ -168,13 +171,17 @@ fn asks_for_election(fault: InputFault) -> bool {
 /// What an input of a task is to be, as far as the task tells, and its path; none for standard input.
 fn input_of(task: &Task, input: InputName) -> Option<(FileKind, Option<&str>)> {
     let (inputs, kind) = match task {
-        Task::Read(election) => return Some((FileKind::Election, election.as_deref())),
+        Task::Read { election, .. } => return Some((FileKind::Election, election.as_deref())),
         Task::Folder { .. } => return None,
+        Task::Groups { inputs, .. }
+        | Task::ExplainGroups { inputs, .. }
+        | Task::GroupsPage { inputs, .. }
+        | Task::GroupMargins { inputs, .. } => return outcome_input_of(inputs, input),
         Task::Prices { inputs, .. } | Task::Margins(inputs) | Task::Tidy(inputs) => {
             (inputs, FileKind::Prices)
         }
         Task::Violation(inputs) => (inputs, FileKind::Violation),
-        Task::Refutation(inputs) => (inputs, FileKind::Refutation),
+        Task::Refutation { inputs, .. } => (inputs, FileKind::Refutation),
         Task::Both {
             inputs,
             violation,
@@ -191,6 +198,15 @@ fn input_of(task: &Task, input: InputName) -> Option<(FileKind, Option<&str>)> {
         InputName::Election => Some((FileKind::Election, Some(&inputs.election))),
         InputName::Outcome => Some((FileKind::Outcome, Some(inputs.outcome.as_deref()?))),
         _ => Some((kind, Some(&inputs.certificate))),
+    }
+}
+
+/// The same where no certificate is taken.
+fn outcome_input_of(inputs: &OutcomeInputs, input: InputName) -> Option<(FileKind, Option<&str>)> {
+    match input {
+        InputName::Election => Some((FileKind::Election, Some(&inputs.election))),
+        InputName::Outcome => Some((FileKind::Outcome, Some(inputs.outcome.as_deref()?))),
+        _ => None,
     }
 }
 

@@ -5,6 +5,7 @@ ghost use Rattle.pb_audit.specs.InTurn.{ReadsElection};
 ghost use Rattle.pb_reply.specs.Replies.{TellsReply};
 ghost use Rattle.pb_reply.specs.Turns.{turn};
 ghost use Rattle.pb_reply.specs.Writing.{Writes};
+ghost use Rattle.pb_reply.specs.declared.answer.Format.TheVariants.{Lines};
 ghost use Rattle.pb_run.specs.Runs.{AnswersTask, EndsTask, Once, end_of};
 
 use crate::asking::{answer_at, asked_by};
@@ -12,7 +13,7 @@ use crate::end::End;
 use crate::files::Files;
 use crate::folder::run_folder;
 use crate::refusals::{tell_hint, tell_notes};
-use pb_audit::{Answer, Fault, Question, Status, answer};
+use pb_audit::{Answer, Fault, Format, Question, Status, answer};
 use pb_command::Task;
 use pb_election::Sink;
 use pb_reply::{File, Given};
@@ -31,8 +32,8 @@ pub fn run_task<F: Files, I: Given, W: Sink, E: Write + IsTerminal>(
 ) -> Result<End, Fault>
     ensures { EndsTask F.lists F.hands F.Input.delivers I.delivers W.Sink (asked task.now) (end_of result) files.old files.new input.old input.new out.old out.new }
 {
-    if let Task::Folder { folder, mode } = task {
-        return run_folder(alloc, files, folder, *mode, out, err);
+    if let Task::Folder { folder, mode, json } = task {
+        return run_folder(alloc, files, folder, *mode, *json, out, err);
     }
     Ok(End::Answered(run_question(alloc, files, task, input, out, err)?))
 }
@@ -80,12 +81,13 @@ fn read_answer<I: Given>(
     election: &mut I,
     notes: &mut Vec<String>,
 ) -> Result<Answer<Status>, AllocError>
-    ensures { IfOk result (TellsReply (ReadsElection (turn I.delivers election.old election.new))) }
+    ensures { IfOk result (TellsReply Lines (ReadsElection (turn I.delivers election.old election.new))) }
 {
     let mut outcome: Option<File<'_>> = None;
     let (mut certificate, mut violation) = (File::Unread, File::Unread);
     answer(
         alloc,
+        Format::Lines,
         Question::Read,
         election,
         &mut outcome,

@@ -236,3 +236,33 @@ pub fn certificate(
         "pb-prices,1\ndenominator,{denominator}\nvoter_budget,{budget}\nvoter,project,payment\n{rows}"
     )
 }
+
+/// An election with this limit, the rows `id;cost;selected` of its projects, and the ballots of voters 1, 2 and so on, each
+/// behind a blank; `-` is an empty ballot.
+pub fn town(
+    alloc: Global,
+    limit: &str,
+    projects: &str,
+    ballots: &str,
+) -> Result<String, AllocError> {
+    let mut text = format!(in alloc;
+        "META\nkey;value\nbudget;{limit}\nvote_type;approval\nPROJECTS\nproject_id;cost;selected\n"
+    )?;
+    for project in projects.split(' ') {
+        writeln!(text, "{project}")?;
+    }
+    text.push_str("VOTES\nvoter_id;vote\n")?;
+    for ballot in ballots.split(' ') {
+        writeln!(text, "v;{}", if ballot == "-" { "" } else { ballot })?;
+    }
+    Ok(text)
+}
+
+/// The text of a refutation.
+pub fn refutation(alloc: Global, cover: &str, rows: &str) -> Result<String, AllocError> {
+    let mut text = format!(in alloc; "pb-refutation,1\ncover,{cover}\nrole,project,weight\n")?;
+    for row in rows.split(' ') {
+        writeln!(text, "{row}")?;
+    }
+    Ok(text)
+}

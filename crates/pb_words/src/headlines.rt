@@ -21,8 +21,18 @@ pub enum Headline {
     Unpriceable,
     /// No prices support the outcome whose budgets together are more than the limit.
     UnpriceableUnderCover,
+    /// No stable prices support the outcome.
+    UnpriceableStable,
+    /// No stable prices support the outcome whose budgets together are more than the limit.
+    UnpriceableStableUnderCover,
     /// The certificate doesn't prove that no prices support the outcome.
     NotRefuted,
+    /// The certificate doesn't prove that no stable prices support the outcome.
+    NotRefutedStable,
+    /// No group of voters falls short.
+    NoGroupFallsShort,
+    /// A group of voters falls short.
+    GroupFallsShort,
 }
 
 /// What an answer says in a language.
@@ -49,8 +59,15 @@ fn english(headline: Headline) -> &'static str
         Headline::Unpriceable => "No prices can support this outcome",
         Headline::UnpriceableUnderCover =>
             "No prices with budgets above the limit can support this outcome",
+        Headline::UnpriceableStable => "No stable prices can support this outcome",
+        Headline::UnpriceableStableUnderCover =>
+            "No stable prices with budgets above the limit can support this outcome",
         Headline::NotRefuted =>
             "This certificate doesn’t prove that no prices can support this outcome",
+        Headline::NotRefutedStable =>
+            "This certificate doesn’t prove that no stable prices can support this outcome",
+        Headline::NoGroupFallsShort => "No group of voters falls short",
+        Headline::GroupFallsShort => "A group of voters falls short",
     }
 }
 
@@ -58,16 +75,23 @@ fn polish(headline: Headline) -> &'static str
     ensures { result.now ≡ spec.polish headline }
 {
     match headline {
-        Headline::Supported => "Ceny uzasadniają ten wynik",
-        Headline::SupportedStable => "Ceny uzasadniają ten wynik w wersji stabilnej",
-        Headline::NotSupported => "Ceny nie uzasadniają tego wyniku",
+        Headline::Supported => "Ceny wspierają ten wynik",
+        Headline::SupportedStable => "Ceny wspierają ten wynik w wersji stabilnej",
+        Headline::NotSupported => "Ceny nie wspierają tego wyniku",
         Headline::Violation => "Tę grupę potraktowano gorzej, niż na to zasługuje",
         Headline::NoViolation => "Ten certyfikat nie dowodzi niesprawiedliwego potraktowania",
-        Headline::Unpriceable => "Żadne ceny nie mogą uzasadnić tego wyniku",
+        Headline::Unpriceable => "Żadne ceny nie mogą wesprzeć tego wyniku",
         Headline::UnpriceableUnderCover =>
-            "Żadne ceny z budżetami większymi niż pula nie mogą uzasadnić tego wyniku",
+            "Żadne ceny z budżetami większymi niż pula nie mogą wesprzeć tego wyniku",
+        Headline::UnpriceableStable => "Żadne stabilne ceny nie mogą wesprzeć tego wyniku",
+        Headline::UnpriceableStableUnderCover =>
+            "Żadne stabilne ceny z budżetami większymi niż pula nie mogą wesprzeć tego wyniku",
         Headline::NotRefuted =>
-            "Ten certyfikat nie dowodzi, że żadne ceny nie mogą uzasadnić tego wyniku",
+            "Ten certyfikat nie dowodzi, że żadne ceny nie mogą wesprzeć tego wyniku",
+        Headline::NotRefutedStable =>
+            "Ten certyfikat nie dowodzi, że żadne stabilne ceny nie mogą wesprzeć tego wyniku",
+        Headline::NoGroupFallsShort => "Żadna grupa głosujących nie dostała za mało",
+        Headline::GroupFallsShort => "Pewna grupa głosujących dostała za mało",
     }
 }
 
@@ -83,8 +107,15 @@ fn german(headline: Headline) -> &'static str
         Headline::Unpriceable => "Keine Preise können dieses Ergebnis stützen",
         Headline::UnpriceableUnderCover =>
             "Keine Preise mit Budgets über dem Gesamtbudget können dieses Ergebnis stützen",
+        Headline::UnpriceableStable => "Keine stabilen Preise können dieses Ergebnis stützen",
+        Headline::UnpriceableStableUnderCover =>
+            "Keine stabilen Preise mit Budgets über dem Gesamtbudget können dieses Ergebnis stützen",
         Headline::NotRefuted =>
             "Dass keine Preise dieses Ergebnis stützen können, ist damit nicht bewiesen",
+        Headline::NotRefutedStable =>
+            "Dass keine stabilen Preise dieses Ergebnis stützen können, ist damit nicht bewiesen",
+        Headline::NoGroupFallsShort => "Keine Gruppe von Abstimmenden kommt zu kurz",
+        Headline::GroupFallsShort => "Eine Gruppe von Abstimmenden kommt zu kurz",
     }
 }
 
@@ -92,15 +123,22 @@ fn french(headline: Headline) -> &'static str
     ensures { result.now ≡ spec.french headline }
 {
     match headline {
-        Headline::Supported => "Les prix justifient ce résultat",
-        Headline::SupportedStable => "Les prix justifient ce résultat sous sa forme stable",
-        Headline::NotSupported => "Les prix ne justifient pas ce résultat",
+        Headline::Supported => "Les prix soutiennent ce résultat",
+        Headline::SupportedStable => "Les prix soutiennent ce résultat sous sa forme stable",
+        Headline::NotSupported => "Les prix ne soutiennent pas ce résultat",
         Headline::Violation => "Ce groupe a été traité moins bien qu’il ne le mérite",
         Headline::NoViolation => "Ce certificat ne prouve aucun traitement injuste",
-        Headline::Unpriceable => "Aucun prix ne peut justifier ce résultat",
+        Headline::Unpriceable => "Aucun prix ne peut soutenir ce résultat",
         Headline::UnpriceableUnderCover =>
-            "Aucun prix dont les budgets dépassent l’enveloppe ne peut justifier ce résultat",
+            "Aucun prix dont les budgets dépassent l’enveloppe ne peut soutenir ce résultat",
+        Headline::UnpriceableStable => "Aucun prix stable ne peut soutenir ce résultat",
+        Headline::UnpriceableStableUnderCover =>
+            "Aucun prix stable dont les budgets dépassent l’enveloppe ne peut soutenir ce résultat",
         Headline::NotRefuted =>
-            "Ce certificat ne prouve pas qu’aucun prix ne peut justifier ce résultat",
+            "Ce certificat ne prouve pas qu’aucun prix ne peut soutenir ce résultat",
+        Headline::NotRefutedStable =>
+            "Ce certificat ne prouve pas qu’aucun prix stable ne peut soutenir ce résultat",
+        Headline::NoGroupFallsShort => "Aucun groupe de votants n’est laissé pour compte",
+        Headline::GroupFallsShort => "Un groupe de votants est laissé pour compte",
     }
 }

@@ -4,11 +4,13 @@
 mod headlines;
 mod language;
 mod sentence;
+mod short_groups;
 mod version;
 mod wording;
 
 pub use headlines::{Headline, headline_words};
 pub use language::Language;
-pub use sentence::{Plural, Sentence};
+pub use sentence::{Plural, Sentence, StableWeights};
+pub use short_groups::ShortGroups;
 pub use version::VERSION;
 pub use wording::wording_of;

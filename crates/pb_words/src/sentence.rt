@@ -1,5 +1,6 @@
 //! The sentences of a page, by name.
 use crate::language::Language;
+use crate::short_groups::ShortGroups;
 
 /// A sentence, or a word that stands by itself. What it says in each language stands in `wording`, with placeholders
 /// in braces. One that speaks of a number of things has a form for each way to say that.
@@ -208,6 +209,8 @@ pub enum Sentence {
     FoundU3,
     FoundU3UnderCover,
     BrokenU3,
+    // What is said of weights where it is of stable prices alone.
+    OfStableWeights(StableWeights),
     // What the page doesn't say, and what may be said.
     NotSaid,
     NotSaidOthers,
@@ -267,6 +270,33 @@ pub enum Sentence {
     CheckBrowser,
     Trust,
     MadeBy,
+    // Those of a page about groups that fall short.
+    OfShortGroups(ShortGroups),
+}
+
+/// A sentence on the weights of a refutation where it speaks of stable prices.
+#[derive(Clone, Copy)]
+pub enum StableWeights {
+    // The answer, and what is asked.
+    WhyUnpriceable,
+    WhyUnpriceableUnderCover,
+    Asked,
+    AskedUnderCover,
+    OfAllPrices,
+    // What the weights count.
+    CountsOffer,
+    // What the tests ask, and what they come to.
+    AsksU1,
+    AsksU2,
+    BrokenU1Funded,
+    FoundU2,
+    BrokenU2,
+    // What the page doesn't say, and what may be said.
+    NotSaidPlain,
+    NotSaidWeights,
+    ClaimUnpriceable,
+    ClaimUnpriceableUnderCover,
+    ClaimNotRefuted,
 }
 
 /// How a language speaks of a number of things. English, German and French have one way for one thing and another for

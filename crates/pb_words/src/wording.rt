@@ -3,6 +3,7 @@ mod de;
 mod en;
 mod fr;
 mod pl;
+mod short_groups;
 
 use crate::language::Language;
 use crate::sentence::Sentence;

@@ -14,7 +14,7 @@ class Clock:
 
     def part(self, share: float) -> "Clock":
         """The time of a part that has this share of what is left."""
-        return Clock(self.left() * share, self._tell, self)
+        return Clock(self.left() * share, self._tell, self._whole or self)
 
     def left(self) -> float:
         """How many seconds are left."""

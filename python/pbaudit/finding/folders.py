@@ -14,13 +14,14 @@ from .._auditor import Mode
 from ..auditing import Refusal, audit_prices
 from ..files import bytes_of
 from ..folders import LOG, LOST, UNREAD, Entry, entries_of
+from ..groups import groups_by_cost
 from ..helpers import TICK, Helper, Lost
 from ..records import records
 from ..shown import visible
 from ..spreadsheets import table
 from .results import Found, FoundRow as Row, Wanted
 from .search import Seeker
-from .there import NAMES, There, kept_and_stale, left_beside, there_at
+from .there import NAMES, REFUTED, There, kept_and_stale, left_beside, there_at
 from .writing import BY_COST, PRICES, REFUTATION, VIOLATION, files_of, write_new
 
 TABLE = "found.csv"
@@ -73,6 +74,8 @@ def searched(asked: Asked) -> Result:
         data = bytes_of(path)
         row = replace(row, rule=rule_of(data))
         seeker = Seeker(found, data, None, asked.wanted, None)
+        found.groups = groups_by_cost(data, None)
+        row = replace(row, groups="" if found.groups is None else found.groups.line)
         there = there_at(os.path.join(asked.output, asked.name), seeker.given, asked.wanted)
         if not asked.is_replaced:
             seeker.wanted = left_beside(there, asked.wanted)
@@ -126,7 +129,7 @@ def _told(row: Row, data: bytes, found: Found, kept: List[There], asked: Asked, 
                                                         exhaustive=found.prices.exhaustive)
         stable = "yes" if is_stable else "not these"
     if found.refutation:
-        refuted = "with Cover" if found.refutation.cover else "yes"
+        refuted = REFUTED[str(found.refutation.verdict.refutes)]
     violations = [f"by {NAMES[each.by]}" for each in found.violations]
     violations += [facts[ending] for ending in (VIOLATION, BY_COST) if ending in facts and facts[ending] not in violations]
     violation = " and ".join(violations) or (NOT_FOUND if wanted.violation else NOT_ASKED)
@@ -149,8 +152,10 @@ class Folder:
     comes. `results` has what came, by the number of the election."""
 
     def __init__(self, entries: List[Entry], output: str, wanted: Wanted, is_replaced: bool,
-                 executor: Optional[Executor] = None):
+                 executor: Optional[Executor] = None, on_row: Optional[Callable[[Row], None]] = None,
+                 workers: Optional[int] = None):
         self.entries, self._output, self._is_replaced, self._executor = entries, output, is_replaced, executor
+        self._on_row, self._workers = on_row or (lambda _: None), workers or len(os.sched_getaffinity(0))
         self._waiting: Deque[Tuple[int, Asked]] = deque(
             (number, Asked(entry.folder, entry.name, wanted, os.path.abspath(output), is_replaced))
             for number, entry in enumerate(entries))
@@ -177,6 +182,7 @@ class Folder:
         finally:
             for future, _, _ in tasks:
                 future.cancel()
+            self._keep_rest()
         for future, number, asked in tasks:
             error = CancelledError() if future.cancelled() else future.exception()
             if error is not None:
@@ -204,7 +210,7 @@ class Folder:
             self._done.put((number, future.result()))
 
     def _run_by_helpers(self, tell: Tell) -> None:
-        helpers = [Helper() for _ in range(min(len(self._waiting), len(os.sched_getaffinity(0))))]
+        helpers = [Helper() for _ in range(min(len(self._waiting), self._workers))]
         threads = [threading.Thread(target=self._work, args=(helper,), daemon=True) for helper in helpers]
         try:
             for thread in threads:
@@ -212,6 +218,8 @@ class Folder:
             while len(self.results) < len(self.entries):
                 self._take(tell)
         finally:
+            # What comes later is of helpers that were stopped.
+            self._keep_rest()
             self._is_stopped = True
             for helper in helpers:
                 helper.stop()
@@ -228,13 +236,14 @@ class Folder:
                     return
                 self._done.put((number, self._searched(helper, asked)))
 
-    @staticmethod
-    def _searched(helper: Helper, asked: Asked) -> Result:
+    def _searched(self, helper: Helper, asked: Asked) -> Result:
         for _ in range(MOST_TRIES):
             try:
                 result: Result = helper.call(searched, asked)
                 return result
             except Lost:
+                if self._is_stopped:
+                    break
                 LOG.warning("the worker on %s.pb was lost", visible(asked.name))
             except Exception as error:
                 return Result(Row(f"{asked.name}.pb", note=f"fault: {error!r}"), status=4)
@@ -247,18 +256,30 @@ class Folder:
             number, result = self._done.get(timeout=TICK)
         except queue.Empty:
             return
-        path = ""
-        try:
-            for ending, data in result.files:
-                path = self._path(self.entries[number].name, ending)
-                write_new(path, data, self._is_replaced)
-            for ending in result.removed:
-                path = self._path(self.entries[number].name, ending)
-                os.unlink(path)
-        except OSError as unwritten:
-            self.fault = f"fault write: {visible(path)}: {unwritten.strerror or unwritten}"
-            result = Result(replace(result.row, note=self.fault), status=4)
+        self._keep(number, result)
+
+    def _keep_rest(self) -> None:
+        """Writes what came by now, where the search ends before all is there."""
+        while not self._done.empty():
+            self._keep(*self._done.get())
+
+    def _keep(self, number: int, result: Result) -> None:
+        does: List[Tuple[str, Callable[[str], None]]] = [
+            (ending, partial(write_new, data=data, replace=self._is_replaced)) for ending, data in result.files]
+        does += [(ending, os.unlink) for ending in result.removed]
+        faults = []
+        for ending, do in does:
+            path = self._path(self.entries[number].name, ending)
+            try:
+                do(path)
+            except OSError as why:
+                # What else was found is written all the same.
+                faults.append(f"fault write: {visible(path)}: {why.strerror or why}")
+        if faults:
+            self.fault = faults[-1]
+            result = Result(replace(result.row, note="; ".join(faults)), status=4)
         self.results[number] = result
+        self._on_row(result.row)
 
     def rows(self) -> List[Row]:
         """The rows of the table, in the order of the elections."""
@@ -278,6 +299,16 @@ def _head() -> Tuple[str, ...]:
 def table_file(rows: List[Row]) -> bytes:
     """The table as a CSV file."""
     return table([_head(), *map(astuple, rows)])
+
+
+def is_table(path: str) -> bool:
+    """Whether a file is the table of a search: it begins with the names of its columns."""
+    head = table_file([])
+    try:
+        with open(path, "rb") as file:
+            return file.read(len(head)) == head
+    except OSError:
+        return False
 
 
 def table_lines(rows: List[Row]) -> List[str]:

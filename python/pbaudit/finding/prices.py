@@ -1,5 +1,5 @@
-"""The search for prices: by water-filling, then by the linear programme, or by cuts where there are many different
-ballots; and how what is found is made exact.
+"""The search for prices: by water-filling, then by the linear programme, or by an interior-point method where there are many
+different ballots; and how what is found is made exact.
 
 Of many prices those are looked for that keep C5 or S5 with room, since only these stay prices when they are rounded.
 They are made exact by `price_certificate`'s own rounding, and audited.
@@ -7,16 +7,16 @@ They are made exact by `price_certificate`'s own rounding, and audited.
 from dataclasses import dataclass, replace
 from fractions import Fraction
 from functools import cached_property
-from typing import Iterator, List, Optional, Tuple
+from typing import Callable, Iterator, List, Optional, Tuple
 
-from ..amounts import common_denominator
+from ..amounts import MOST_DENOMINATOR, common_denominator
 from ..auditing import audit_prices
 from ..certificates import DENOMINATORS, certified
 from ..helpers import Helper
 from ..rounding import CannotKeep
 from ..values import Payments, Projects
 from .clock import Clock
-from .cuts import Cuts, suit
+from .deciding import Decision, Decisions
 from .programme import TOLERANCE, NoPrices, OutOfTime, Unsolved, by_programme
 from .results import FoundPrices
 from .shares import Need, Problem, Shares, budgets, payments_of, unpaid
@@ -24,6 +24,10 @@ from .water import by_water
 
 # Why no prices were found.
 NONE, TIME, UNSOLVED, ROUNDING, UNPAID = "none", "time", "unsolved", "rounding", "unpaid"
+# For how many seconds what was found may be rounded even where time is over.
+LAST = 5.0
+# Is told of prices that are kept while better ones are looked for.
+Keep = Callable[[FoundPrices], None]
 
 
 @dataclass(frozen=True)
@@ -37,20 +41,20 @@ class Given:
     exhaustive: bool
 
     @cached_property
-    def cuts(self) -> Optional[Cuts]:
-        """The cuts over the weights, which serve prices and refutations; None where the linear programme is sooner."""
-        return Cuts(self.problem) if suit(self.problem) else None
+    def decisions(self) -> Decisions:
+        """What is decided by the interior-point method, which serves prices and refutations."""
+        return Decisions(self.problem)
 
 
-def find_prices(given: Given, stable: bool, covered: bool, solver: Helper,
-                clock: Clock) -> Tuple[Optional[FoundPrices], str]:
+def find_prices(given: Given, stable: bool, covered: bool, solver: Helper, clock: Clock,
+                keep: Keep) -> Tuple[Optional[FoundPrices], str]:
     """Prices, with Cover where there are some, or None and why none were found. Where `covered`, those without Cover
-    don't count."""
+    don't count; else `keep` is told of them before those with Cover are looked for."""
     if unpaid(given.problem) is not None:
         return None, UNPAID
     try:
-        found, why = _found(given, stable, covered, solver, clock)
-        return found and _with_cover(given, found), why
+        found, why = _found(given, stable, covered, solver, clock, keep)
+        return found and also_with_cover(given, found), why
     except NoPrices:
         return None, NONE
     except OutOfTime:
@@ -59,23 +63,28 @@ def find_prices(given: Given, stable: bool, covered: bool, solver: Helper,
         return None, UNSOLVED
 
 
-def _found(given: Given, stable: bool, covered: bool, solver: Helper,
-           clock: Clock) -> Tuple[Optional[FoundPrices], str]:
+def _found(given: Given, stable: bool, covered: bool, solver: Helper, clock: Clock,
+           keep: Keep) -> Tuple[Optional[FoundPrices], str]:
     problem, with_cover, without = given.problem, Need(stable, True), Need(stable, False)
     shares, failed = by_water(problem, with_cover, clock)
     found = shares and _exact(given, shares, with_cover, clock)
     if found or covered:
         found = found or _exact(given, _solved(given, with_cover, failed, solver, clock), with_cover, clock)
         return found, "" if found else ROUNDING
+    decided = given.decisions.of(with_cover, clock)
+    if decided is not None:
+        return _decided(given, decided, without, solver, clock)
     # Where there are none without Cover there are none with it.
     shares, failed = by_water(problem, without, clock)
     spare = shares and _exact(given, shares, without, clock)
-    if spare and _with_cover(given, spare).cover:
+    if spare and also_with_cover(given, spare).cover:
         return spare, ""
     if not spare:
         shares = _solved(given, without, failed, solver, clock)
         found = _exact(given, shares, with_cover, clock)
         spare = None if found else _exact(given, shares, without, clock)
+    if spare:
+        keep(spare)
     try:
         found = found or _exact(given, _solved(given, with_cover, failed, solver, clock), with_cover, clock)
     except (NoPrices, OutOfTime, Unsolved):
@@ -83,11 +92,25 @@ def _found(given: Given, stable: bool, covered: bool, solver: Helper,
     return found or spare, "" if found or spare else ROUNDING
 
 
+def _decided(given: Given, with_cover: Decision, without: Need, solver: Helper,
+             clock: Clock) -> Tuple[Optional[FoundPrices], str]:
+    """Prices by what was decided of those with Cover, and otherwise without. Raises NoPrices, OutOfTime and Unsolved."""
+    found = with_cover.shares and _exact(given, with_cover.shares, replace(without, cover=True), clock)
+    if not found:
+        spare, failed = by_water(given.problem, without, clock)
+        found = _exact(given, spare or _solved(given, without, failed, solver, clock), without, clock)
+    return found, "" if found else ROUNDING
+
+
 def _solved(given: Given, need: Need, failed: List[int], solver: Helper, clock: Clock) -> Shares:
-    """Prices by cuts, where these suit, or by the programme. Raises NoPrices, OutOfTime and Unsolved."""
-    if given.cuts is not None and not need.stable:
-        return given.cuts.shares(need.cover, clock)
-    return by_programme(given.problem, need, failed, solver, clock)
+    """Prices by the interior-point method, where this suits, or by the programme. Raises NoPrices, OutOfTime and
+    Unsolved."""
+    decided = given.decisions.of(need, clock)
+    if decided is None:
+        return by_programme(given.problem, need, failed, solver, clock)
+    if decided.shares is None:
+        raise NoPrices
+    return decided.shares
 
 
 def _exact(given: Given, shares: Shares, need: Need, clock: Clock) -> Optional[FoundPrices]:
@@ -97,18 +120,20 @@ def _exact(given: Given, shares: Shares, need: Need, clock: Clock) -> Optional[F
     unit = common_denominator(given.problem.town.costs[project] for project in given.problem.funded)
     for budget in _voter_budgets(given.problem, shares, need):
         # A finer denominator may keep Cover where the first that keeps all else doesn't.
-        for wanted in (None, *(-(-each // unit) * unit for each in DENOMINATORS[1:-1])):
-            found = _rounded(given, payments, budget, wanted, need)
+        finer = DENOMINATORS[1:] if need.cover else DENOMINATORS[1:-1]
+        for wanted in (None, *(min(-(-each // unit), MOST_DENOMINATOR // unit) * unit for each in finer)):
+            found = rounded(given, payments, budget, wanted, need, clock)
             if found or not clock.left():
                 return found
     return None
 
 
-def _rounded(given: Given, payments: Payments, budget: Optional[Fraction], denominator: Optional[int],
-             need: Need) -> Optional[FoundPrices]:
+def rounded(given: Given, payments: Payments, budget: Optional[Fraction], denominator: Optional[int], need: Need,
+             clock: Clock) -> Optional[FoundPrices]:
     town = given.problem.town
     try:
-        made = certified(town, given.projects, budget, payments, need.stable, given.exhaustive, denominator)
+        made = certified(town, given.projects, budget, payments, need.stable, given.exhaustive, denominator,
+                         clock=Clock(max(clock.left(), LAST)))
     except CannotKeep:
         return None
     verdict = audit_prices(given.election, made.file, given.outcome, stable=need.stable, exhaustive=given.exhaustive,
@@ -116,7 +141,7 @@ def _rounded(given: Given, payments: Payments, budget: Optional[Fraction], denom
     return FoundPrices(made, verdict, need.stable, given.exhaustive, need.cover) if verdict else None
 
 
-def _with_cover(given: Given, found: FoundPrices) -> FoundPrices:
+def also_with_cover(given: Given, found: FoundPrices) -> FoundPrices:
     """The same prices, as those that were asked for with Cover where they have it, however they were found."""
     verdict = found.verdict if found.cover else audit_prices(given.election, found.file, given.outcome, stable=found.stable,
                                                              exhaustive=found.exhaustive, cover=True)

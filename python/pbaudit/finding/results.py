@@ -1,15 +1,19 @@
 """What a search for certificates answers."""
 import html
 from dataclasses import dataclass, field
-from typing import Any, Dict, List, Optional, Tuple
+from fractions import Fraction
+from typing import Any, Callable, Dict, List, Literal, Optional, Tuple, Union
 
 from ..auditing import Verdict
 from ..certificates import PriceCertificate
+from ..groups import GroupsVerdict
 from ..shown import visible
 from ..tables import PriceSystem, Result, html_of
 from ..writing import Satisfaction
 
 SECONDS = 60.0
+# How a relaxation is measured.
+By = Literal["min_mul", "min_add"]
 
 
 @dataclass(frozen=True)
@@ -69,7 +73,8 @@ class FoundViolation(Result):
 @dataclass(frozen=True)
 class FoundRefutation(Result):
     """A refutation that was found, with the auditor's verdict on it, which is a yes: the weights of projects by their
-    ids and roles, and that of Cover, which is 0 where no prices whatever support the outcome.
+    ids and roles, and that of Cover, which is 0 where it isn't of prices with Cover alone. `stable` says whether it is of
+    stable prices alone.
 
     >>> park, school = Project("park", 2), Project("school", 8)
     >>> town = write_election(Instance([park, school], 8), [{park}] * 2 + [{school}] * 2, [school])
@@ -89,6 +94,16 @@ class FoundRefutation(Result):
     # It has dictionaries.
     __hash__ = None  # type: ignore[assignment]
 
+    @property
+    def stable(self) -> bool:
+        """Whether it refutes stable prices alone."""
+        return self.verdict.refutes in ("stable", "stable with Cover")
+
+    @property
+    def options(self) -> List[str]:
+        """The options by which `pbaudit refutation` gives this verdict."""
+        return ["--stable"] if self.stable else []
+
     def rows_of_table(self) -> List[Dict[str, Any]]:
         """A row for each weight."""
         return [{"project": project, "role": role, "weight": weight} for role in ("least", "most", "left")
@@ -98,12 +113,15 @@ class FoundRefutation(Result):
 @dataclass
 class Found(Result):
     """What a search found: prices, or None; a refutation, or None; violations, at most one by each measure; and
-    sentences on what was found and on what wasn't, which `str` shows. It is true where anything was found. `unfinished`
-    is what was looked for when the search was stopped, or None.
+    sentences on what was found and on what wasn't. It is true where any of these was found. `groups` is the answer of
+    `audit_groups`, by cost, for which nothing has to be found, and None where the auditor is older. `str` shows that and
+    the sentences. `unfinished` is what was looked for when the search was stopped, or None.
 
     >>> found = find("town.pb", violation=False)
     >>> bool(found), found.violations, found.unfinished
     (True, [], None)
+    >>> print(found.groups)
+    satisfied ejr+ by cost
     """
 
     prices: Optional[FoundPrices] = None
@@ -111,6 +129,7 @@ class Found(Result):
     violations: List[FoundViolation] = field(default_factory=list)
     sentences: List[str] = field(default_factory=list)
     unfinished: Optional[str] = None
+    groups: Optional[GroupsVerdict] = None
 
     @property
     def price_system(self) -> PriceSystem:
@@ -128,23 +147,56 @@ class Found(Result):
                 for kind, each, demanded in found if each is not None]
 
     def _repr_html_(self) -> str:
-        """What was found as a table, with the sentences, as a notebook shows it."""
-        told = "".join(f"<p>{html.escape(visible(sentence))}</p>" for sentence in self.sentences)
-        return html_of(self.rows_of_table()) + told
+        """The answer on groups, what was found as a table, and the sentences, as a notebook shows it."""
+        def shown(lines: List[str]) -> str:
+            return "".join(f"<p>{html.escape(visible(line))}</p>" for line in lines)
+        return shown(self._first()) + html_of(self.rows_of_table()) + shown(self.sentences)
+
+    def _first(self) -> List[str]:
+        """The line on groups, where there is one."""
+        return [] if self.groups is None else [self.groups.line]
 
     def __bool__(self) -> bool:
         return self.prices is not None or self.refutation is not None or bool(self.violations)
 
     def __str__(self) -> str:
-        return "\n".join(self.sentences)
+        return "\n".join(self._first() + self.sentences)
+
+
+# Is told of each certificate as soon as it is found.
+OnFound = Callable[[Union[FoundPrices, FoundRefutation, FoundViolation]], None]
+
+
+class Stopped(KeyboardInterrupt):
+    """A search that the keyboard stopped, as Ctrl+C does. `found` is what it had found by then: of `find` a `Found`, whose
+    `unfinished` says what was looked for, and of `find_folder` a `FoundFolder`, whose certificates and table are written.
+    The next call goes on, with `earlier` or with `resume`.
+
+    >>> park, school = Project("park", 2), Project("school", 8)
+    >>> town = write_election(Instance([park, school], 8), [{park}] * 2 + [{school}] * 2, [school])
+    >>> def stop(found):
+    ...     raise KeyboardInterrupt
+    >>> try:
+    ...     find(town, on_found=stop)
+    ... except Stopped as why:
+    ...     print(why.found.refutation.verdict, find(town, earlier=why.found).violations[0].by)
+    unpriceable count
+    """
+
+    def __init__(self, found: "Union[Found, FoundFolder]"):
+        super().__init__(found)
+        self.found = found
+
+    def __str__(self) -> str:
+        return "the search was stopped; `found` of this exception is what it had found"
 
 
 @dataclass(frozen=True)
 class FoundRow(Result):
-    """What the table of a folder says of an election: its rule, by its file; whether prices were found, and whether
-    these are stable; whether all prices are refuted; by which measures violations were found, all of these now or
-    before; how long that took; and what went wrong, with the files that no longer belong to the outcome. What wasn't
-    looked for, and isn't there, is empty.
+    """What the table of a folder says of an election: its rule, by its file; the line of `audit_groups`, by cost; whether
+    prices were found, and whether these are stable; whether all prices are refuted; by which measures violations were
+    found, all of these now or before; how long that took; and what went wrong, with the files that no longer belong to
+    the outcome. What wasn't looked for, and isn't there, is empty.
 
     >>> row, = find_folder("elections", output="mine", violation=False).rows
     >>> row.election, row.prices, row.refuted
@@ -153,6 +205,7 @@ class FoundRow(Result):
 
     election: str
     rule: str = ""
+    groups: str = ""
     prices: str = ""
     stable: str = ""
     refuted: str = ""
@@ -168,7 +221,7 @@ class FoundFolder(Result):
 
     >>> found = find_folder("elections", output="mine", violation=False)
     >>> found.status, str(found).split()[:3]
-    (0, ['election', 'rule', 'prices'])
+    (0, ['election', 'rule', 'groups'])
     """
 
     rows: Tuple[FoundRow, ...]
@@ -184,6 +237,32 @@ class FoundFolder(Result):
     def __str__(self) -> str:
         from .folders import table_lines
         return "\n".join(table_lines(list(self.rows)))
+
+
+@dataclass(frozen=True)
+class Relaxation(Result):
+    """Prices that keep all conditions but C5 or S5, and keep this by a relaxation: each unfunded project may cost `beta`
+    times as much ("min_mul"), or `beta` more ("min_add"). The `verdict` is the auditor's on these prices in the election
+    in which it does. That there are such prices by this `beta` is exact; that there are none by a smaller one is what the
+    solver says, but for a millionth mostly.
+
+    >>> park, school = Project("park", 2), Project("school", 8)
+    >>> town = Instance([park, school], 8), [{park}] * 2 + [{school}] * 2, [school]
+    >>> relaxed = smallest_relaxation(*town)
+    >>> print(relaxed.verdict, round(float(relaxed.beta), 3))
+    supported stable 4.0
+    """
+
+    by: By
+    beta: Fraction
+    verdict: Verdict
+    price_system: PriceSystem
+    # It has lists.
+    __hash__ = None  # type: ignore[assignment]
+
+    def rows_of_table(self) -> List[Dict[str, Any]]:
+        """A row for each payment."""
+        return self.price_system.rows_of_table()
 
 
 @dataclass(frozen=True)

@@ -4,15 +4,18 @@ import os
 from dataclasses import dataclass, replace
 from typing import List, Tuple
 
-from ..auditing import Refusal, audit_prices, audit_refutation, audit_violation
+from ..auditing import Refusal, Refutes, audit_prices, audit_refutation, audit_violation
 from ..files import bytes_of
 from ..folders import UNREAD
 from ..records import records
+from ..writing import Satisfaction
 from .prices import Given
 from .results import Wanted
 from .writing import BY_COST, PRICES, REFUTATION, VIOLATION
 
 NAMES = {"count": "counting", "cost": "cost"}
+# What the table of a folder says of what a refutation refutes.
+REFUTED = {"all": "yes", "with Cover": "with Cover", "stable": "stable", "stable with Cover": "stable with Cover"}
 
 
 @dataclass(frozen=True)
@@ -66,16 +69,22 @@ def _prices(file: bytes, given: Given, wanted: Wanted) -> There:
 
 
 def _refutation(file: bytes, given: Given, wanted: Wanted) -> There:
-    found = audit_refutation(given.election, file, given.outcome)
-    is_of_all = found.refutes == "all"
-    return There(REFUTATION, found.line, found.holds, "yes" if is_of_all else "with Cover",
-                 answers=found.holds and (wanted.refutation or wanted.prices) and (is_of_all or wanted.cover))
+    found = audit_refutation(given.election, file, given.outcome, stable=True)
+    return There(REFUTATION, found.line, found.holds, REFUTED.get(str(found.refutes), ""),
+                 answers=(wanted.refutation or wanted.prices) and found.refutes in refuting(wanted))
 
 
-def measure_of(violation: bytes) -> str:
+def refuting(wanted: Wanted) -> List[Refutes]:
+    """What a refutation may refute that answers what is looked for."""
+    covers: List[Refutes] = ["with Cover"] if wanted.cover else []
+    stable: List[Refutes] = ["stable", "stable with Cover"] if wanted.stable else []
+    return ["all", *covers, *stable[:1 + wanted.cover]]
+
+
+def measure_of(violation: bytes) -> Satisfaction:
     """The measure of a violation certificate that was accepted."""
     second = list(records(violation, b","))[1]
-    return second[1].decode("ascii") if second[0] == b"satisfaction" else "count"
+    return "cost" if second == [b"satisfaction", b"cost"] else "count"
 
 
 def left_beside(there: List[There], wanted: Wanted) -> Wanted:

@@ -1,5 +1,6 @@
 """The files that a search writes: `NAME.prices.csv`, or `NAME.refutation.csv`, and `NAME.violation.csv`; where there is a
 violation by each measure, the one by cost is `NAME.cost.violation.csv`."""
+import errno
 import os
 from typing import List, Optional, Tuple
 
@@ -33,6 +34,16 @@ def files_of(found: Found) -> List[Tuple[str, Verdict, bytes]]:
                     for ending, violation in zip((VIOLATION, BY_COST), found.violations)]
 
 
+def check_folder(path: str) -> None:
+    """Raises OSError where no file can be written to a folder, which needn't be there yet. That it can isn't sure."""
+    there = os.path.abspath(path)
+    while not os.path.lexists(there):
+        there = os.path.dirname(there)
+    number = errno.ENOTDIR if not os.path.isdir(there) else 0 if os.access(there, os.W_OK | os.X_OK) else errno.EACCES
+    if number:
+        raise OSError(number, os.strerror(number), there)
+
+
 def write_new(path: str, data: bytes, replace: bool) -> None:
     """Writes a file, over another only if that is to be replaced. One that can't be written whole isn't left. Raises
     OSError."""
@@ -41,6 +52,7 @@ def write_new(path: str, data: bytes, replace: bool) -> None:
         try:
             file.write(data)
             file.flush()
-        except OSError:
+        except BaseException:
+            # The keyboard leaves none either.
             os.unlink(path)
             raise

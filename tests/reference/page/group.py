@@ -15,7 +15,7 @@ MILLION = 10**6
 class GroupFigures(Tested):
     """What is found of a group and its demand."""
 
-    words = ("share", "demand")
+    words = ("certificate", "share", "demand")
 
     def __init__(self, election, funded, violation):
         super().__init__(violations.TESTS, election, funded, violation)

@@ -4,7 +4,7 @@ from . import amounts
 from .findings import comes_to
 from .nodes import element
 from .projects import funded, unfunded
-from .states import condition_item
+from .states import Explained, condition_item
 
 CONDITIONS = {
     "Feasible": conditions.feasible, "Exhaustive": conditions.exhaustive, "Cover": conditions.cover,
@@ -41,10 +41,10 @@ class SummedClaim(conditions.Claim):
         return self.offer_for[project]
 
 
-class PriceFigures:
+class PriceFigures(Explained):
     """What is found of prices: the places at which each condition fails, whether asked or not."""
 
-    words = ("prices", "supporter", "left", "offer")
+    words = ("certificate", "prices", "supporter", "left", "offer")
 
     def __init__(self, election, funded, prices, mode):
         self.claim, self.mode = SummedClaim(election, funded, prices), mode

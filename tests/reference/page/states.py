@@ -1,22 +1,30 @@
-"""Conditions and tests with what became of them, and what pages on violations and on refutations share."""
+"""Conditions and tests with what became of them, and what pages on certificates share."""
 from .nodes import element
 
 SIGNS = {"holds": "\u2713 ", "fails": "\u2717 ", "not_asked": "\u2013 "}
 CLASSES = {"holds": "state", "fails": "state fails", "not_asked": "state unasked"}
 
 
-def condition_item(case, name, state, words, told):
+def condition_item(case, name, state, words, told, asks=None):
     """A condition or a test: its plain name, its name in the lines of the program, its state, what it comes to, and
-    what it asks."""
+    what it asks, which is `asks` where the page speaks of something else than usual."""
     badge = element("span", SIGNS[state], case.say(words), class_=CLASSES[state])
     return element(
         "li",
         element("h3", case.say(f"name.{name}")), element("div", name), badge,
-        element("p", told), element("p", case.say(f"asks.{name}")),
+        element("p", told), element("p", case.say(asks or f"asks.{name}")),
     )  # fmt: skip
 
 
-class Tested:
+class Explained:
+    """What is found of something, of which some words are explained."""
+
+    def means(self, word):
+        """What a word means, by its meaning."""
+        return f"words.{word}.means"
+
+
+class Tested(Explained):
     """What is found by tests, all of which are asked: `culprits` has where each fails, and `failed` is the first that does."""
 
     def __init__(self, tests, *given):
@@ -32,10 +40,16 @@ class Tested:
 
     def tests(self, case):
         listed = [
-            condition_item(case, name, self.state(name), f"state.test_{self.state(name)}", self.comes_to(case, name))
+            condition_item(
+                case, name, self.state(name), f"state.test_{self.state(name)}", self.comes_to(case, name), self.asks(name)
+            )
             for name in self.culprits
         ]
         return element("section", element("h2", case.say("state.tests")), element("ol", listed))
+
+    def asks(self, name):
+        """What a test asks, by its meaning."""
+        return f"asks.{name}"
 
     # What only prices have.
 

@@ -11,26 +11,44 @@ COLUMNS = [("projects.project", WORDS), ("projects.cost", MONEY), ("demand.state
 
 
 class WeightFigures(Tested):
-    """What is found of the weights of a refutation."""
+    """What is found of the weights of a refutation. What is told is of stable prices alone if these are asked about and the
+    weights don't refute all prices."""
 
-    words = ("prices", "supporter", "left", "weight")
-
-    def __init__(self, election, funded, refutation):
+    def __init__(self, election, funded, refutation, mode=()):
         self.election, self.funded, self.refutation = election, funded, refutation
-        self.weighing = refutations.Weighing(election, funded, refutation)
+        self.asks_stable = "--stable" in mode
+        refutes_all = refutations.first_failure(election, funded, refutation) is None
+        self.of_stable = self.asks_stable and not refutes_all
+        self.weighing = refutations.Weighing(election, funded, refutation, self.of_stable)
+        self.words = ("certificate", "prices", "supporter", "left", *(["offer"] if self.of_stable else []), "weight")
         super().__init__(refutations.TESTS, self.weighing)
 
+    def told(self, meaning):
+        """A meaning, of stable prices if it is those that are told of."""
+        return meaning + ("_stable" if self.of_stable else "")
+
     def form(self):
-        return "yes_cover" if self.refutation.cover else "yes"
+        if self.failed:
+            return self.told("no")
+        return self.told("yes") + ("_cover" if self.refutation.cover else "")
 
     def answer(self):
-        return "answer.refutation.no" if self.failed else f"answer.refutation.{self.form()}"
+        return f"answer.refutation.{self.form()}"
 
     def not_said(self):
-        return ["not_said.refutation." + ("no" if self.failed else "yes")]
+        if self.failed:
+            return [f"not_said.refutation.{self.form()}"]
+        plain = ["not_said.refutation.plain"] if self.of_stable else []
+        return [*plain, "not_said.refutation.yes"]
 
     def may_be_said(self):
-        return ["claims.refutation.no" if self.failed else f"claims.refutation.{self.form()}"]
+        return [f"claims.refutation.{self.form()}"]
+
+    def options(self):
+        return ["--stable"] if self.asks_stable else []
+
+    def asks(self, name):
+        return "asks.U3" if name == "U3" else self.told(f"asks.{name}")
 
     # What is paid by the weights.
 
@@ -54,7 +72,10 @@ class WeightFigures(Tested):
         return self.comes_to(case, self.failed) if self.failed else [case.say(f"why.refutation.{self.form()}")]
 
     def asked_for(self, case):
-        return element("li", case.say(f"asked.refutation.{self.form()}"))
+        form = "stable" if self.asks_stable else "yes"
+        asked = element("li", case.say(f"asked.refutation.{form}" + ("_cover" if self.refutation.cover else "")))
+        is_of_all = self.asks_stable and not self.of_stable
+        return [asked, element("li", case.say("asked.refutation.of_all"), class_="stable") if is_of_all else []]
 
     def figures(self, case):
         return [
@@ -82,10 +103,11 @@ class WeightFigures(Tested):
 
     def row(self, case, project):
         role = self.refutation.roles[project].decode()
+        counts = self.told("weights.counts.left") if role == "left" else f"weights.counts.{role}"
         return (
             project, None, case.amount(case.cost(project)),
             case.say("demand.funded" if project in self.funded else "demand.unfunded"),
-            case.say(f"weights.counts.{role}"), amounts.grouped(self.weighing.weight(project)),
+            case.say(counts), amounts.grouped(self.weighing.weight(project)),
         )  # fmt: skip
 
     # What the tests come to.
@@ -98,8 +120,8 @@ class WeightFigures(Tested):
         if not culprits:
             return [case.say("comes_to.U1.holds")]
         project = culprits[0][1]
-        which = "funded" if project in self.funded else "unfunded"
-        told = case.filled(f"comes_to.U1.fails_{which}", project=case.project(project))
+        which = self.told("fails_funded") if project in self.funded else "fails_unfunded"
+        told = case.filled(f"comes_to.U1.{which}", project=case.project(project))
         if len(culprits) == 1:
             return told
         count = amounts.grouped(len(culprits))
@@ -108,7 +130,7 @@ class WeightFigures(Tested):
     def budgets(self, case):
         counted, taken = self.weighing.u2_sums()
         told = {"counted": amounts.grouped(counted), "taken": amounts.grouped(taken)}
-        return case.filled(f"comes_to.U2.{self.state('U2')}", **told)
+        return case.filled(self.told(f"comes_to.U2.{self.state('U2')}"), **told)
 
     def sums(self, case):
         state = self.state("U3")

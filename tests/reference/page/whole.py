@@ -12,6 +12,7 @@ from .group import GroupFigures, money_tile, tile
 from .labels import cut, visible
 from .nodes import element, text_of
 from .prices import PriceFigures
+from .short_groups import ShortFigures
 from .weights import WeightFigures
 
 POLICY = "default-src 'none'; style-src 'unsafe-inline'; base-uri 'none'; form-action 'none'"
@@ -25,19 +26,28 @@ KINDS = {
 
 
 class Audit:
-    """The files of a command `page`, what is found of them, and the line and the status that the program gives."""
+    """The files of a command `page`, what is found of them, and the line and the status that the program gives. With a measure the
+    page is about groups that fall short by it, and there is no certificate."""
 
-    def __init__(self, election, certificate, mode=(), outcome=None):
+    def __init__(self, election, certificate=None, mode=(), outcome=None, measure=None):
         self.paths = {"election": election, "outcome": outcome, "certificate": certificate}
         self.mode, self.said = set(mode), set()
         self.election = answers.take("election", read_election, election)
         self.funded = answers.take_outcome(self.election, outcome)
+        self.found, (self.line, self.status) = self.of_groups(measure) if measure else self.of_certificate(certificate)
+
+    def of_groups(self, measure):
+        """What is found of groups, and the verdict on them."""
+        found = self.election, self.funded, measure
+        return ShortFigures(*found), answers.verdict_on_groups(*found)
+
+    def of_certificate(self, certificate):
+        """The same of a certificate."""
         kind = answers.kind_of(answers.take("certificate", bytes, certificate))
         reads, verdict_on, figures = KINDS[kind]
         found = [self.election, self.funded, answers.take("certificate", reads, certificate, self.election)]
-        found += [self.mode] if kind == "prices" else []
-        self.line, self.status = verdict_on(*found)
-        self.found = figures(*found)
+        found += [] if kind == "violation" else [self.mode]
+        return figures(*found), verdict_on(*found)
 
     def files(self):
         given = [(role, os.fsencode(path)) for role, path in self.paths.items() if path is not None]
@@ -155,8 +165,8 @@ def use(case, name, whole, used):
 def behind_figures(case, found):
     """What the answer doesn't say, what it lets one say, and the words of the page."""
     explained = [
-        [element("dt", case.say(f"words.{word}.word")), element("dd", case.say(f"words.{word}.means"))]
-        for word in ("certificate", *found.words)
+        [element("dt", case.say(f"words.{word}.word")), element("dd", case.say(found.means(word)))]
+        for word in found.words
     ]
     return [
         element("section", element("h2", case.say("not_said.title")),
@@ -199,14 +209,16 @@ def by_program(case, found):
     names = [file.name for file in case.files]
     if all(map(is_word, names)) and len(set(names)) == len(names):
         return [case.say("files.by_program"), element("br"), element("code", command(case, found))]
-    options = (["--outcome"] if len(names) == 3 else []) + found.options()
+    options = (["--outcome"] if "outcome" in [file.role for file in case.files] else []) + found.options()
     told = [" ", case.filled("files.options", options=" ".join(options))] if options else []
     return [case.say("files.by_hand"), told]
 
 
 def command(case, found):
     words = {file.role: element("bdi", shell_word(file.name.decode())) for file in case.files}
-    told = ["pbaudit explain ", words["election"], " ", words["certificate"]]
+    told = ["pbaudit explain ", words["election"]]
+    if "certificate" in words:
+        told += [" ", words["certificate"]]
     if "outcome" in words:
         told += [" --outcome ", words["outcome"]]
     return told + [" " + option for option in found.options()]

@@ -1,29 +1,16 @@
-/* Calls of the proved library as a WebAssembly module. A file is put into the module's memory, a call answers a status,
-   bytes and facts. Room that was given isn't taken back before the next audit, for which all memory is as it was at
-   first. */
+/* Calls of the proved library as a WebAssembly module. A file is put into the module's memory, a call answers a status and
+   bytes. Room that was given isn't taken back before the next audit, for which all memory is as it was at first. */
 
-import { callOf, COMMANDS, groupsCall, INPUTS, isOnPrices } from "./commands.js";
-import { FACTS_LENGTH, factsIn, onGroupsBy } from "./facts.js";
-import { NO, NO_MEMORY, OutOfMemory, YES } from "./statuses.js";
-import type { Call, Command, Input, Place, Question, Row, Word } from "./commands.js";
-import type { Facts, OnGroups } from "./facts.js";
-import type { Hint } from "./lines.js";
+import { COMMANDS, pageCall, reportCall } from "./commands.js";
+import { replyIn } from "./replies.js";
+import { NO_MEMORY, OutOfMemory } from "./statuses.js";
+import type { Call, Command, PageCommand, Place, Question, Row, Word } from "./commands.js";
+import type { Reply } from "./replies.js";
 
 /** How a call ends, and its text. */
-interface Ended {
+export interface Ended {
   readonly status: number;
   readonly bytes: Uint8Array;
-}
-
-export interface Reply extends Ended {
-  readonly facts: Facts;
-}
-
-/** What was refused, and why. */
-export interface Refusal {
-  readonly input: Input;
-  readonly number: number;
-  readonly record: number;
 }
 
 /** What the module exports. */
@@ -34,6 +21,8 @@ interface Calls {
 
 /** The room for an answer that is guessed at first: for a text, and for some lines. */
 const TEXT_ROOM = 1 << 22, LINES_ROOM = 1 << 16;
+/** The bytes of pbaudit_facts, which a page tells beside its text. */
+const FACTS_LENGTH = 40;
 
 /** The canonical text of a certificate is about as long as the certificate. */
 function guessFor(command: Command, { files }: Question): number {
@@ -102,40 +91,18 @@ export class Auditor {
     return this.put(new TextEncoder().encode(text));
   }
 
-  /** Calls a command, and asks after a yes to prices what it says of groups. */
-  ask(command: Command, asked: Question, guess = guessFor(command, asked)): Reply {
-    const reply = this.answer(command, asked, guess), { status, facts } = reply;
-    // Of both, the prices may be right where the violation is none.
-    const isYes = status === YES || (command === "both" && status === NO && !facts.condition);
-    const saysOfGroups = isYes && isOnPrices(command) ? this.groups(asked) : undefined;
-    return saysOfGroups ? { ...reply, facts: { ...facts, saysOfGroups } } : reply;
+  /**
+   * All that is to be told of the answer to a question. Where it needs more than the room that was guessed, it is asked
+   * again.
+   */
+  report(command: Command, asked: Question, guess = guessFor(command, asked)): Reply {
+    const { isText }: Row = COMMANDS[command], { status, bytes } = this.call(reportCall(command, asked), guess);
+    return replyIn(status, bytes, !isText);
   }
 
-  /** What a yes says of groups, if the certificate is one of prices. */
-  private groups(asked: Question): OnGroups | undefined {
-    const { name, words } = groupsCall(asked), number = this.export(name)(...words) as number;
-    if (number === NO_MEMORY) throw new OutOfMemory();
-    return onGroupsBy(number);
-  }
-
-  /** Calls a command. Where the answer needs more than the room that was guessed, the command is called again. */
-  answer(command: Command, asked: Question, guess = guessFor(command, asked)): Reply {
-    const facts = this.facts ??= this.room(FACTS_LENGTH);
-    // A call that tells no facts leaves none.
-    this.bytes(facts).fill(0);
-    const ended = this.call(callOf(command, asked, facts), guess);
-    return { ...ended, facts: factsIn(this.view(facts)) };
-  }
-
-  /** Why a file was refused, beside the election where it is another file. */
-  hint({ input, number, record }: Refusal, file: Place, election?: Place): Hint {
-    const line = this.room(8);
-    const beside: Word[] = election ? [election.at, election.length, 1] : [file.at, 0n, 0];
-    const words = [INPUTS[input], number, BigInt(record), file.at, file.length, ...beside, line.at];
-    const { status, bytes } = this.call({ name: "pbaudit_hint", words }, TEXT_ROOM);
-    if (status !== YES) return { line: 0, sentences: [] };
-    const sentences = new TextDecoder().decode(bytes).split("\n").filter(Boolean);
-    return { line: this.number(line), sentences };
+  /** A page, or the line of a refusal. */
+  page(command: PageCommand, asked: Question): Ended {
+    return this.call(pageCall(command, asked, this.facts ??= this.room(FACTS_LENGTH)), TEXT_ROOM);
   }
 
   private view({ at, length }: Place): DataView {
@@ -153,6 +120,7 @@ export class Auditor {
     for (;; room = this.room(this.number(needed))) {
       this.answered = room;
       const status = this.export(name)(...words, room.at, room.length, needed.at) as number;
+      if (status === NO_MEMORY) throw new OutOfMemory();
       const length = this.number(needed);
       if (length <= Number(room.length)) {
         return { status, bytes: this.bytes({ at: room.at, length: BigInt(length) }).slice() };

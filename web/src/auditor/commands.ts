@@ -15,32 +15,34 @@ export type Role = "election" | "outcome" | "certificate" | "violation";
 /** A word of a call. */
 export type Word = bigint | number;
 
-/** What is asked: the files that the command takes, and how. The names and the language are for a page alone. */
+/** By what is said what voters got: what their funded projects cost, or how many they are. */
+export type Measure = "cost" | "count";
+
+/**
+ * What is asked: the files that the command takes, and how. The names and the language are for a page alone, and the
+ * measure for groups that fall short.
+ */
 export interface Question {
   readonly files: { readonly [Name in Role]?: Place | undefined };
   readonly names: { readonly [Name in Role]?: Place | undefined };
   readonly mode: Mode;
+  readonly measure?: Measure;
   readonly language?: Place | undefined;
 }
 
-/** What the library calls each file when it is asked why it was refused. */
-export const INPUTS = { election: 0, outcome: 1, prices: 2, violation: 3, certificate: 4, refutation: 5 } as const;
-
-export type Input = keyof typeof INPUTS;
-
-/** What stands beside an answer: the notes on the election, and the note on a yes to prices that says little. */
-export type Beside = "election" | "yes";
+/** What a certificate has to be: one of some kind, or of any. */
+export type Wanted = "prices" | "violation" | "refutation" | "certificate";
 
 /**
- * A command: the number of its question (a page and a note have calls of their own), the files that it needs, what its
- * certificate has to be, what is told beside its answer, and whether this is a line or a few, and no text that grows
- * with the files.
+ * A command: the number of its question (a page has a call of its own), by measures where it has one for each, the files
+ * that it needs, what its certificate has to be, whether its answer is a text alone and no object, and whether it is a
+ * line or a few, and no text that grows with the files.
  */
 export interface Row {
-  readonly question?: number;
+  readonly question?: number | Readonly<Record<Measure, number>>;
   readonly needs: readonly Role[];
-  readonly certificate?: Input;
-  readonly beside?: readonly Beside[];
+  readonly certificate?: Wanted;
+  readonly isText?: boolean;
   readonly isShort?: boolean;
 }
 
@@ -48,25 +50,18 @@ const rows = <Table extends Record<string, Row>>(table: Table): Table => table;
 
 export const COMMANDS = rows({
   read: { question: 0, needs: ["election"], isShort: true },
-  prices: {
-    question: 1, needs: ["election", "certificate"], certificate: "prices", beside: ["election", "yes"], isShort: true,
-  },
-  violation: {
-    question: 2, needs: ["election", "certificate"], certificate: "violation", beside: ["election"], isShort: true,
-  },
-  refutation: {
-    question: 3, needs: ["election", "certificate"], certificate: "refutation", beside: ["election"], isShort: true,
-  },
-  both: {
-    question: 4, needs: ["election", "certificate", "violation"], certificate: "prices", beside: ["yes"], isShort: true,
-  },
-  explain: {
-    question: 5, needs: ["election", "certificate"], certificate: "certificate", beside: ["election", "yes"],
-  },
-  margins: { question: 6, needs: ["election", "certificate"], certificate: "prices" },
-  tidy: { question: 7, needs: ["election", "certificate"], certificate: "prices" },
+  groups: { question: { cost: 8, count: 9 }, needs: ["election"], isShort: true },
+  prices: { question: 1, needs: ["election", "certificate"], certificate: "prices", isShort: true },
+  violation: { question: 2, needs: ["election", "certificate"], certificate: "violation", isShort: true },
+  refutation: { question: 3, needs: ["election", "certificate"], certificate: "refutation", isShort: true },
+  both: { question: 4, needs: ["election", "certificate", "violation"], certificate: "prices", isShort: true },
+  explain: { question: 5, needs: ["election", "certificate"], certificate: "certificate" },
+  margins: { question: 6, needs: ["election", "certificate"], certificate: "prices", isText: true },
+  tidy: { question: 7, needs: ["election", "certificate"], certificate: "prices", isText: true },
   page: { needs: ["election", "certificate"], certificate: "certificate" },
-  note: { needs: ["election", "certificate"], certificate: "prices" },
+  explainGroups: { question: { cost: 10, count: 11 }, needs: ["election"] },
+  groupMargins: { question: { cost: 12, count: 13 }, needs: ["election"], isText: true },
+  groupsPage: { needs: ["election"] },
 });
 
 export type Command = keyof typeof COMMANDS;
@@ -82,33 +77,51 @@ const given = (place: Place | undefined): Word[] => {
   return [place.at, place.length];
 };
 
-/** Whether the command answers whether prices support an outcome, if its certificate is one of prices. */
-export const isOnPrices = (command: Command): boolean =>
-  command === "page" || ((COMMANDS[command] as Row).beside ?? []).includes("yes");
+/** What a page is about, as a question that has an answer of its own. */
+export const ABOUT_PAGE = { page: "explain", groupsPage: "groups" } as const;
 
-/** The call that tells what a yes to prices says of groups. */
-export const groupsCall = ({ files: { election, certificate }, mode }: Question): Call =>
-  ({ name: "pbaudit_groups", words: [...given(election), ...given(certificate), Number(mode.exhaustive)] });
+export type PageCommand = keyof typeof ABOUT_PAGE;
 
-/** The call of a command. The facts that are told of its answer go to this place. */
-export function callOf(command: Command, { files, names, mode, language }: Question, facts: Place): Call {
-  const { question, needs }: Row = COMMANDS[command];
-  // A file that isn't needed may be missing, but its pointer may not be null.
-  const file = (role: Role): Word[] =>
-    given(files[role] ?? (needs.includes(role) ? undefined : { ...files.election!, length: 0n }));
-  const switches = [mode.stable, mode.exhaustive, mode.cover].map(Number);
-  const hasOutcome = Number(files.outcome !== undefined);
-  if (command === "note") return { name: "pbaudit_note", words: [...file("election"), ...file("certificate")] };
-  if (question === undefined) {
-    const words = [
-      ...file("election"), ...given(names.election), ...file("outcome"), ...given(names.outcome), hasOutcome,
-      ...file("certificate"), ...given(names.certificate), ...switches, ...given(language), facts.at,
-    ];
-    return { name: "pbaudit_answer_page", words };
-  }
+export const isPage = (command: Command): command is PageCommand => command in ABOUT_PAGE;
+
+/** A file of a command. One that isn't needed may be missing, but its pointer may not be null. */
+function fileOf(command: Command, { files }: Question, role: Role): Word[] {
+  const { needs }: Row = COMMANDS[command];
+  return given(files[role] ?? (needs.includes(role) ? undefined : { ...files.election!, length: 0n }));
+}
+
+const switchesOf = ({ mode: { stable, exhaustive, cover } }: Question): Word[] =>
+  [stable, exhaustive, cover].map(Number);
+
+const hasOutcome = ({ files }: Question): Word => Number(files.outcome !== undefined);
+
+function measureOf({ measure }: Question): Measure {
+  if (!measure) throw new TypeError("the measure by which groups are looked at isn't given");
+  return measure;
+}
+
+/** The call of a question for all that is to be told of its answer. */
+export function reportCall(command: Command, asked: Question): Call {
+  const { question }: Row = COMMANDS[command], file = (role: Role): Word[] => fileOf(command, asked, role);
+  const number = typeof question === "object" ? question[measureOf(asked)] : question;
+  if (number === undefined) throw new TypeError(`${command} is no question`);
   const words = [
-    question, ...file("election"), ...file("outcome"), hasOutcome, ...file("certificate"), ...file("violation"),
-    ...switches, facts.at,
+    number, ...file("election"), ...file("outcome"), hasOutcome(asked), ...file("certificate"), ...file("violation"),
+    ...switchesOf(asked),
   ];
-  return { name: "pbaudit_answer", words };
+  return { name: "pbaudit_report", words };
+}
+
+/** The call of a page. The facts that are told of its answer, which nobody reads, go to this place. */
+export function pageCall(command: PageCommand, asked: Question, facts: Place): Call {
+  const { names, language } = asked, file = (role: Role): Word[] => fileOf(command, asked, role);
+  const begin = [
+    ...file("election"), ...given(names.election), ...file("outcome"), ...given(names.outcome), hasOutcome(asked),
+  ];
+  const end = [...given(language), facts.at];
+  if (command === "groupsPage") {
+    return { name: "pbaudit_groups_page", words: [...begin, Number(measureOf(asked) === "count"), ...end] };
+  }
+  const words = [...begin, ...file("certificate"), ...given(names.certificate), ...switchesOf(asked), ...end];
+  return { name: "pbaudit_answer_page", words };
 }

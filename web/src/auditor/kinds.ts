@@ -9,8 +9,8 @@ export type Kind = "election" | "prices" | "violation" | "refutation" | "outcome
 /** The refusals of a file that doesn't begin as an election. */
 const NOT_UTF8 = 1, NO_META = 2;
 
-/** Of a longer file this much is shown to the auditor. */
-export const FRONT = 1 << 20;
+/** Of a longer file this much is shown to the auditor, and so much at first, which nearly always tells. */
+export const FRONT = 1 << 20, GLANCE = 1 << 14;
 const KIND_ROOM = 1 << 12;
 /** An election and a certificate beside which the file in question is read. */
 const BARE_ELECTION =
@@ -34,7 +34,7 @@ export class Teller {
   /** The number of the refusal, and of its record, where the file is taken for one of a kind. Other answers have none. */
   private refusal(command: Command, files: Question["files"]): { number: number; record: number } {
     const asked = { files, names: {}, mode: USUAL_MODE };
-    return this.auditor.ask(command, asked, KIND_ROOM).facts.fault ?? { number: 0, record: Infinity };
+    return this.auditor.report(command, asked, KIND_ROOM).beside.refusal ?? { number: 0, record: Infinity };
   }
 
   /**

@@ -7,6 +7,10 @@ export const LONGEST_FILE = 2 ** 28;
 /** The module has no memory left, and no more is given. */
 export class OutOfMemory extends Error {}
 
+/** Whether the module has no memory left, or whoever runs it. */
+export const isOutOfMemory = (error: unknown): boolean =>
+  error instanceof OutOfMemory || (error instanceof RangeError && /memory|allocat/i.test(error.message));
+
 /** What is asked of prices. */
 export interface Mode {
   readonly stable: boolean;

@@ -29,27 +29,25 @@ function isSpelling(before: string, character: string, after: string): boolean {
 
 const numbered = (character: string): string => `\\u{${character.codePointAt(0)!.toString(16)}}`;
 
+/** A text with something in the place of each hidden character, but for joiners that belong to the spelling. */
+function withoutHidden(text: string, instead: (character: string) => string): string {
+  return text.replace(HIDDEN, (character: string, at: number) => {
+    const after = String.fromCodePoint(text.codePointAt(at + character.length) ?? 0);
+    const before = [...text.slice(Math.max(0, at - 2), at)].pop() ?? "";
+    return isSpelling(before, character, after) ? character : instead(character);
+  });
+}
+
 /**
  * A text with each hidden character as its number, as `\u{202e}`, like the names on the library's page. Characters of
  * `kept` stay as they are.
  */
-export function visible(text: string, kept = ""): string {
-  return text.replace(HIDDEN, (character: string, at: number) => {
-    const after = String.fromCodePoint(text.codePointAt(at + character.length) ?? 0);
-    const before = [...text.slice(Math.max(0, at - 2), at)].pop() ?? "";
-    return isSpelling(before, character, after) || kept.includes(character) ? character : numbered(character);
-  });
-}
+export const visible = (text: string, kept = ""): string =>
+  withoutHidden(text, character => kept.includes(character) ? character : numbered(character));
 
 /** A text with U+FFFD for each hidden character but the ends of lines. */
 export const seen = (text: string): string =>
   text.replace(HIDDEN, character => character === "\n" ? character : "\ufffd");
-
-/** A path with each hidden character as its number, whatever stands beside it. */
-export function shownPath(path: string): string {
-  const marks: Readonly<Record<string, string>> = { "\t": "\\t", "\n": "\\n", "\r": "\\r" };
-  return path.replace(HIDDEN, character => marks[character] ?? numbered(character));
-}
 
 /** A text of at most so many characters: the text itself, or its front and an ellipsis. */
 export function shortened(text: string, most: number): string {
@@ -69,6 +67,36 @@ export function shownName(name: string): string {
 export function toldName(name: string): string {
   const shown = shownName(name);
   return FROM_THE_RIGHT.test(shown) ? `${ISOLATE}${shown}${END_OF_ISOLATE}` : shown;
+}
+
+/** What some system doesn't have in the names of files, or not in front or at the end. */
+const NOT_IN_NAMES = /[<>:"/\\|?*]|^[.\s-]|[.\s]$/g, DEVICE = /^(?:con|prn|aux|nul|com\d|lpt\d)(?=\.|$)/i;
+/** No name has more bytes than systems take. */
+const MOST_LETTERS = 200, MOST_BYTES = 200;
+
+/** A name with so few bytes that each system takes it. Letters in the middle go. */
+function fitting(name: string): string {
+  const all = [...name], half = MOST_LETTERS / 2;
+  const letters = all.length > MOST_LETTERS ? [...all.slice(0, half), ...all.slice(-half)] : all;
+  while (new TextEncoder().encode(letters.join("")).length > MOST_BYTES) letters.splice(letters.length >> 1, 1);
+  return letters.join("");
+}
+
+/** The name under which a file is saved: its own, with `_` in the place of what can't be seen or isn't in names everywhere. */
+export function savedAs(name: string): string {
+  const plain = fitting(withoutHidden(name, () => "_").replace(NOT_IN_NAMES, "_"));
+  return plain === "" || DEVICE.test(plain) ? `_${plain}` : plain;
+}
+
+/** The names under which files are saved into one folder: no two are the same, also where capitals are small letters. */
+export function savedTogether(names: readonly string[]): string[] {
+  const taken = new Set<string>();
+  return names.map(savedAs).map(name => {
+    let own = name;
+    for (let number = 2; taken.has(own.toLowerCase()); number++) own = `${number}_${name}`;
+    taken.add(own.toLowerCase());
+    return own;
+  });
 }
 
 /** A line that the program prints, as it is shown. */

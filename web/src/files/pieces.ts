@@ -31,7 +31,7 @@ export interface Task {
   readonly asks?: "election" | "outcome";
 }
 
-/** What somebody chose for a certificate, where that isn't what the names say. */
+/** What somebody chose for a certificate, or for an election alone, where that isn't what the names say. */
 export interface Choice {
   readonly election?: Piece | undefined;
   readonly outcome?: Piece | null | undefined;
@@ -113,13 +113,13 @@ function electionsAmong(elections: readonly Piece[]): Finding {
 }
 
 /**
- * Finds the outcome file that is named as a certificate is, as A.B.outcome.csv beside A.B.prices.csv; or the only one
- * that is named so but for capitals.
+ * Finds the outcome file that is named as a certificate is, as A.B.outcome.csv beside A.B.prices.csv, or as an election;
+ * or the only one that is named so but for capitals.
  */
 function outcomesAmong(outcomes: readonly Piece[]): Finding {
   const named = piecesBy(({ file }) => file.name, outcomes), alike = piecesBy(({ file }) => lower(file.name), outcomes);
   return ({ folder, file }) => {
-    const name = file.name.replace(/\.(prices|violation|refutation)\.csv$/i, ".outcome.csv");
+    const name = file.name.replace(/(\.(prices|violation|refutation)\.csv|\.pb)$/i, ".outcome.csv");
     return named(folder, name)[0] ?? onlyOf(alike(folder, lower(name)));
   };
 }
@@ -132,7 +132,10 @@ function openElections(elections: readonly Piece[], open: readonly Piece[], elec
   return new Set(open.map(each => electionOf(each) ?? onlyOf(elections)));
 }
 
-/** What is to be audited: each certificate, and the elections that have none. `choices` come before names. */
+/**
+ * What is to be audited: each certificate, and the elections that have none. `choices`, of certificates and of elections,
+ * come before names.
+ */
 export function tasksOf(pieces: readonly Piece[], choices: ReadonlyMap<Piece, Choice>): Task[] {
   const ofKind = (kind: Kind): Piece[] => pieces.filter(piece => piece.kind === kind);
   const elections = ofKind("election"), outcomes = ofKind("outcome"), certificates = pieces.filter(isCertificate);
@@ -149,7 +152,11 @@ export function tasksOf(pieces: readonly Piece[], choices: ReadonlyMap<Piece, Ch
   });
   const audited = new Set(tasks.map(task => task.election));
   const alone = elections.filter(election => !audited.has(election));
-  return [...tasks, ...alone.map(election => ({ election, certificate: null, outcome: null }))].sort(byName);
+  const outcomeOf = (election: Piece): Piece | null => {
+    const chosen = choices.get(election)?.outcome;
+    return chosen === undefined ? namedOutcome(election) : chosen;
+  };
+  return [...tasks, ...alone.map(election => ({ election, certificate: null, outcome: outcomeOf(election) }))].sort(byName);
 }
 
 function byName(a: Task, b: Task): number {

@@ -1,40 +1,25 @@
-/* The search for prices: water-filling, then rounding to whole numerators. It is the method by which `find` of the
-   Python package begins, without the linear programme that goes on from there. That nothing is found is no proof. */
+/* The search for prices: by water-filling, then by an interior-point method, and of few voters by an exact programme; and how
+   what is found is made exact. That nothing is found is no proof. */
 
 import { commonDenominator } from "../elections/amounts.js";
 import { fieldOf, pricesHead } from "./certificates.js";
-import { roomOf } from "./groups.js";
 import { wholeBy } from "./rounding.js";
-import type { Cohorts } from "./cohorts.js";
 import { votersIn } from "./town.js";
-import { byWater, problemOf } from "./water.js";
+import type { Decisions, Progress } from "./deciding.js";
+import type { Exact } from "./programme.js";
 import type { Whole } from "./rounding.js";
-import type { Town } from "./town.js";
-import type { Need, Payers, Problem } from "./water.js";
+import type { Need, Payers, Problem, Shares } from "./shares.js";
 
 const DENOMINATORS = [100, 1e4, 1e6, 1e9];
 const MOST_DENOMINATOR = 1e9;
 /** The file is made in pieces of about so many letters. */
 const PIECE = 1 << 16;
 
-/** How far the search is. */
-export interface Progress {
-  /** Whether it looks for budgets that are more than the limit together. */
+/** Prices as the pieces of a certificate, and whether their budgets are more than the limit together. */
+export interface FoundPrices {
   readonly cover: boolean;
-  /** How often the supporters of unfunded projects were asked to pay more. */
-  readonly round: number;
+  readonly pieces: readonly Uint8Array[];
 }
-
-/** Why there are none: the outcome costs too much, nobody can pay for a project, or none were found. */
-export type WithoutPrices =
-  | { readonly says: "infeasible" }
-  | { readonly says: "unpaid"; readonly project: number }
-  | { readonly says: "none" }
-  | { readonly says: "rounding" };
-
-export type FoundPrices =
-  | { readonly says: "found"; readonly cover: boolean; readonly pieces: readonly Uint8Array[] }
-  | WithoutPrices;
 
 /** The denominators to try: multiples near round numbers by which what is funded costs whole numbers. */
 function denominatorsFor({ town, funded }: Problem): number[] {
@@ -42,47 +27,37 @@ function denominatorsFor({ town, funded }: Problem): number[] {
   return DENOMINATORS.map(wanted => Math.min(Math.ceil(wanted / unit), Math.floor(MOST_DENOMINATOR / unit)) * unit);
 }
 
-/** Payments that are whole numerators, and whose they are. */
-interface Exact {
-  readonly says: "exact";
-  readonly payers: Payers;
-  readonly whole: Whole;
-}
-
 /** Looks for prices; where budgets needn't be more than the limit together, first for such, and then for others. */
-export function* findPrices(town: Town, cohorts: Cohorts, wanted: Need): Generator<Progress, FoundPrices> {
-  const problem = problemOf(town, cohorts), unpaid = problem.funded.find(project => !problem.supporters[project]);
-  if (!roomOf(town).isFeasible) return { says: "infeasible" };
-  if (unpaid !== undefined) return { says: "unpaid", project: unpaid };
+export function* findPrices(decisions: Decisions, wanted: Need): Generator<Progress, FoundPrices | undefined> {
+  const { problem } = decisions;
   // Nobody's budgets aren't more than any limit.
-  const covers = [...votersIn(town) ? [true] : [], ...wanted.cover ? [] : [false]];
-  let why: WithoutPrices = { says: "none" };
+  const covers = [...votersIn(problem.town) ? [true] : [], ...wanted.cover ? [] : [false]];
   for (const cover of covers) {
-    const found = yield* withCover(cover, exactBy(problem, { ...wanted, cover }));
-    if (found.says === "exact") return { says: "found", cover, pieces: [...piecesOf(problem, found)] };
-    why = found;
+    const exact = yield* exactPrices(decisions, { ...wanted, cover });
+    if (exact) return { cover, pieces: [...piecesOf(problem, exact)] };
   }
-  return why;
+  return undefined;
 }
 
-/** Looks for prices of one kind. What the water-filling holds is given back once they are exact. */
-function* exactBy(problem: Problem, need: Need): Generator<number, Exact | WithoutPrices> {
-  const water = yield* byWater(problem, need);
-  if (!water) return { says: "none" };
+/** Looks for prices of one kind. */
+function* exactPrices(decisions: Decisions, need: Need): Generator<Progress, Exact | undefined> {
+  const { problem } = decisions;
+  if (decisions.known(need)?.weights) return undefined;
+  const water = yield* decisions.byWater(need), found = water && exactBy(problem, water, need);
+  if (found) return found;
+  const { shares } = yield* decisions.byInterior(need), exact = shares && exactBy(problem, shares, need);
+  if (exact) return exact;
+  const solved = yield* decisions.byProgramme(need);
+  return solved?.isCovered || !need.cover ? solved?.prices : undefined;
+}
+
+/** Payments near these that keep all conditions exactly. */
+function exactBy(problem: Problem, shares: Shares, need: Need): Exact | undefined {
   for (const denominator of denominatorsFor(problem)) {
-    const whole = wholeBy(problem, water, denominator, need);
-    if (whole) return { says: "exact", payers: water.payers, whole };
+    const whole = wholeBy(problem, shares, denominator, need);
+    if (whole) return { payers: shares.payers, whole };
   }
-  return { says: "rounding" };
-}
-
-/** What a search yields, with whether it looks for Cover. */
-function* withCover<Answer>(cover: boolean, rounds: Generator<number, Answer>): Generator<Progress, Answer> {
-  for (;;) {
-    const { done, value } = rounds.next();
-    if (done) return value;
-    yield { cover, round: value };
-  }
+  return undefined;
 }
 
 /** Payments by cohorts: those of a cohort from starts[cohort] on, by rising project. */

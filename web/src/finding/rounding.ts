@@ -4,7 +4,7 @@
 import { MILLION } from "../elections/amounts.js";
 import { sumsOf } from "./cohorts.js";
 import { votersIn } from "./town.js";
-import type { Need, Problem, Water } from "./water.js";
+import type { Need, Problem, Shares } from "./shares.js";
 
 /** What the voters of each cohort pay together, beside the payers; and the budget of a voter. */
 export interface Whole {
@@ -20,8 +20,8 @@ const numeratorOf = (millionths: bigint, denominator: number): bigint => million
  * Shares the cost of a project as its payers pay: what all up to each of them pay together is rounded down, so that
  * each pays less than one numerator more or less than before, and together they pay the cost.
  */
-function shareCost(problem: Problem, water: Water, place: number, cost: number, numerators: Float64Array): void {
-  const { payers, paid } = water, { sizes } = problem.cohorts;
+function shareCost(problem: Problem, shares: Shares, place: number, cost: number, numerators: Float64Array): void {
+  const { payers, paid } = shares, { sizes } = problem.cohorts;
   const start = payers.starts[place], end = payers.starts[place + 1];
   let all = 0, sum = 0, before = 0;
   for (let at = start; at < end; at++) all += paid[at] * sizes[payers.cohorts[at]];
@@ -34,9 +34,9 @@ function shareCost(problem: Problem, water: Water, place: number, cost: number, 
 }
 
 /** What the voters of each cohort spend together. */
-function spentBy(water: Water, numerators: Float64Array): Float64Array {
-  const spent = new Float64Array(water.spent.length);
-  water.payers.cohorts.forEach((cohort, at) => { spent[cohort] += numerators[at]; });
+function spentBy(shares: Shares, numerators: Float64Array): Float64Array {
+  const spent = new Float64Array(shares.spent.length);
+  shares.payers.cohorts.forEach((cohort, at) => { spent[cohort] += numerators[at]; });
   return spent;
 }
 
@@ -51,7 +51,7 @@ function leastBudget({ town, cohorts: { sizes } }: Problem, spent: Float64Array,
 }
 
 /** What the voters of each cohort offer together at most: in the stable form, one may pay or have left one more. */
-function offersOf({ cohorts: { sizes } }: Problem, water: Water, { budget, numerators }: Whole, spent: Float64Array,
+function offersOf({ cohorts: { sizes } }: Problem, shares: Shares, { budget, numerators }: Whole, spent: Float64Array,
     stable: boolean): Float64Array {
   const offers = spent.map((sum, cohort) => sizes[cohort] * budget - sum);
   if (!stable) return offers;
@@ -59,7 +59,7 @@ function offersOf({ cohorts: { sizes } }: Problem, water: Water, { budget, numer
     offers[cohort] = Math.max(offers[cohort], sizes[cohort] * Math.ceil(amount / sizes[cohort]));
   };
   offers.forEach((offer, cohort) => raise(cohort, offer));
-  water.payers.cohorts.forEach((cohort, at) => raise(cohort, numerators[at]));
+  shares.payers.cohorts.forEach((cohort, at) => raise(cohort, numerators[at]));
   return offers;
 }
 
@@ -69,16 +69,16 @@ function isKept({ town, cohorts, unfunded }: Problem, denominator: number, offer
   return unfunded.every(project => BigInt(sums[project]) <= numeratorOf(town.costs[project], denominator));
 }
 
-/** The payments of the water over a denominator by which what is funded costs whole numbers; undefined where a
+/** Payments over a denominator by which what is funded costs whole numbers; undefined where a
     condition isn't kept. */
-export function wholeBy(problem: Problem, water: Water, denominator: number, need: Need): Whole | undefined {
-  const { town, funded } = problem, numerators = new Float64Array(water.paid.length);
+export function wholeBy(problem: Problem, shares: Shares, denominator: number, need: Need): Whole | undefined {
+  const { town, funded } = problem, numerators = new Float64Array(shares.paid.length);
   const costs = funded.map(project => numeratorOf(town.costs[project], denominator));
   if (costs.some(cost => cost > BigInt(Number.MAX_SAFE_INTEGER))) return undefined;
-  costs.forEach((cost, place) => shareCost(problem, water, place, Number(cost), numerators));
-  const spent = spentBy(water, numerators), budget = leastBudget(problem, spent, denominator, need.cover);
+  costs.forEach((cost, place) => shareCost(problem, shares, place, Number(cost), numerators));
+  const spent = spentBy(shares, numerators), budget = leastBudget(problem, spent, denominator, need.cover);
   // No sum is more than twice what all voters have.
   if (2 * budget * votersIn(town) > Number.MAX_SAFE_INTEGER) return undefined;
   const whole = { denominator, budget, numerators };
-  return isKept(problem, denominator, offersOf(problem, water, whole, spent, need.stable)) ? whole : undefined;
+  return isKept(problem, denominator, offersOf(problem, shares, whole, spent, need.stable)) ? whole : undefined;
 }

@@ -6,9 +6,8 @@
    flows anew. Amounts are floats, in shares of the limit. */
 
 import { sumsOf } from "./cohorts.js";
-import { placesWhere, votersIn } from "./town.js";
-import type { Cohorts } from "./cohorts.js";
-import type { Town } from "./town.js";
+import { budgetsOf, largest, payersOf } from "./shares.js";
+import type { Need, Payers, Problem, Shares } from "./shares.js";
 
 const SWEEPS = 60, MORE_SWEEPS = 8;
 export const ROUNDS = 60;
@@ -17,73 +16,9 @@ const STILL = 1e-9;
 const ROOM = 1e-3;
 /** After so many rounds by which the budget that C5 allows isn't nearer to the one that is needed, it is given up. */
 const PATIENCE = 10, NEARER = 0.99;
-/** How often the greatest budget of the stable form is looked for by halving. */
-const HALVINGS = 60;
-
-/** Which prices are looked for. */
-export interface Need {
-  readonly stable: boolean;
-  readonly cover: boolean;
-}
-
-/**
- * An election with its outcome for a search: what projects cost in a unit by which a voter's share of the limit is 1
- * (where the limit is 0, in the currency), the funded projects that cost something, and the unfunded ones that somebody
- * approves.
- */
-export interface Problem {
-  readonly town: Town;
-  readonly cohorts: Cohorts;
-  readonly costs: Float64Array;
-  /** A voter's share of the limit. */
-  readonly share: number;
-  readonly funded: readonly number[];
-  readonly unfunded: readonly number[];
-  readonly supporters: Float64Array;
-}
-
-export function problemOf(town: Town, cohorts: Cohorts): Problem {
-  const unit = votersIn(town) && town.limit ? Number(town.limit) / votersIn(town) : 1e6;
-  const supporters = sumsOf(cohorts, cohort => cohorts.sizes[cohort], town.ids.length);
-  return {
-    town, cohorts, share: town.limit ? 1 : 0, supporters,
-    costs: Float64Array.from(town.costs, cost => Number(cost) / unit),
-    funded: placesWhere(town, at => town.isFunded[at] && town.costs[at] > 0n),
-    unfunded: placesWhere(town, at => !town.isFunded[at] && supporters[at] > 0),
-  };
-}
-
-/** The payers of each funded project, one after the other: those of the project at place k from starts[k] on. */
-export interface Payers {
-  readonly starts: Uint32Array;
-  readonly cohorts: Uint32Array;
-}
-
-function payersOf({ town, cohorts, funded }: Problem): Payers {
-  const { first, ballots } = cohorts, at = new Int32Array(town.ids.length).fill(-1);
-  funded.forEach((project, place) => { at[project] = place; });
-  const starts = new Uint32Array(funded.length + 1);
-  const eachPair = (does: (place: number, cohort: number) => void): void => first.forEach((voter, cohort) => {
-    for (let slot = ballots.starts[voter]; slot < ballots.starts[voter + 1]; slot++) {
-      const place = at[ballots.places[slot]];
-      if (place >= 0) does(place, cohort);
-    }
-  });
-  eachPair(place => { starts[place + 1]++; });
-  for (let place = 0; place < funded.length; place++) starts[place + 1] += starts[place];
-  const found = new Uint32Array(starts[funded.length]), ends = starts.slice();
-  eachPair((place, cohort) => { found[ends[place]++] = cohort; });
-  return { starts, cohorts: found };
-}
-
-const largest = (numbers: Iterable<number>, least: number): number => {
-  let most = least;
-  for (const number of numbers) most = Math.max(most, number);
-  return most;
-};
 
 /** Payments of the supporters of funded projects, and how rich the cohorts are taken for. */
-export class Water {
+export class Water implements Shares {
   readonly payers: Payers;
   /** What a voter of each cohort pays, beside the payers; and what it spends. */
   readonly paid: Float64Array;
@@ -170,47 +105,6 @@ export class Water {
     }
     return below ? { level: (cost + held) / weight, below } : undefined;
   }
-}
-
-/** By how much more the supporters of each unfunded project have left together, or can offer, than it costs. */
-function excesses({ cohorts, costs, unfunded, town }: Problem, { spent }: Water, budget: number,
-    dearest: Float64Array | undefined): number[] {
-  const offer = (cohort: number): number => Math.max(budget - spent[cohort], dearest ? dearest[cohort] : -Infinity);
-  const sums = sumsOf(cohorts, cohort => cohorts.sizes[cohort] * offer(cohort), town.ids.length);
-  return unfunded.map(project => sums[project] - costs[project]);
-}
-
-/** The largest payment of a voter of each cohort. */
-function dearestOf({ payers, paid, spent }: Water): Float64Array {
-  const most = new Float64Array(spent.length);
-  payers.cohorts.forEach((cohort, at) => { most[cohort] = Math.max(most[cohort], paid[at]); });
-  return most;
-}
-
-/**
- * The least and the greatest budget of a voter by which the payments keep C2, and C5 or S5. The least may be the
- * greater one.
- */
-function budgetsOf(problem: Problem, water: Water, stable: boolean): [number, number] {
-  const least = largest(water.spent, 0), { unfunded, supporters } = problem;
-  if (!unfunded.length) return [least, Infinity];
-  if (stable) return [least, greatestStable(problem, water, least)];
-  const room = excesses(problem, water, least, undefined).map((over, at) => over / supporters[unfunded[at]]);
-  return [least, least - largest(room, -Infinity)];
-}
-
-/** The greatest budget that keeps S5; less than the least where that doesn't. */
-function greatestStable(problem: Problem, water: Water, least: number): number {
-  const dearest = dearestOf(water);
-  const over = (budget: number): number => largest(excesses(problem, water, budget, dearest), -Infinity);
-  if (over(least) > 0) return least - over(least);
-  let low = least, high = 2 * least + largest(problem.costs, 0) + 1;
-  for (let turn = 0; turn < HALVINGS; turn++) {
-    const middle = (low + high) / 2;
-    if (over(middle) > 0) high = middle;
-    else low = middle;
-  }
-  return low;
 }
 
 /** Looks for payments that keep all conditions in floats, and says before each round of more how many there were. */

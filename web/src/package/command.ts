@@ -1,93 +1,42 @@
-/* The command `pbaudit`, run by Node: the arguments, answers, exit statuses and messages of the program. */
+/* The command `pbaudit`: the proved program, compiled to WebAssembly, by Node. */
 
 import { readFileSync, writeSync } from "node:fs";
 import process from "node:process";
-import { OutOfMemory } from "../auditor/statuses.js";
-import { auditFolder } from "./folder.js";
-import { USAGE } from "./generated.js";
-import { moduleBytes } from "./module.js";
-import { modeOf, Task } from "./run.js";
-import { askedBy, Ended } from "./usage.js";
+import { setFlagsFromString } from "node:v8";
+import { isOutOfMemory } from "../auditor/statuses.js";
+import { machineOf, wordsOf } from "./machine.js";
 import { awaited } from "./waiting.js";
-import type { Command } from "../auditor/commands.js";
-import type { Run } from "./run.js";
-import type { Asked } from "./usage.js";
 
-const USAGE_STATUS = 3, FAULT_STATUS = 4, OUTPUT = 1, ERRORS = 2;
-const LANGUAGES: readonly (string | null | undefined)[] = [undefined, "en", "pl", "de", "fr"];
-const NO_WORDS = "error: an argument is not UTF-8\n";
-const NO_LANGUAGE = "error: the language of a page has to be en, pl, de or fr\n";
+const NAME = "pbaudit", FAULT_STATUS = 4, ERRORS = 2;
+/** After so much work V8 compiles a function anew. Node waits for that at its end, which took longer than a small file. */
+const LATER = "--wasm-tiering-budget=20000000";
 
-/** Writes all of it. */
-function write(file: number, bytes: Uint8Array): void {
-  for (let at = 0; at < bytes.length;) {
-    const from = at;
-    at += awaited(() => writeSync(file, bytes, from));
-  }
+/** Runs the program, and answers its exit status. */
+function run(): number {
+  const module = new WebAssembly.Module(readFileSync(new URL("pbaudit.wasm", import.meta.url)));
+  const words = [new TextEncoder().encode(NAME), ...wordsOf()];
+  const machine = machineOf(words, () => memory);
+  const { exports } = new WebAssembly.Instance(module, { machine });
+  const memory = exports.memory as WebAssembly.Memory;
+  return (exports.run as () => number)();
 }
 
-/** Tells something on standard error. What isn't taken there is lost. */
-function tell(text: string): void {
+/** What is told where the program couldn't run to its end, which is no answer. */
+const faultOf = (error: unknown): string => isOutOfMemory(error) ? "fault memory\n" : `${NAME}: ${error}\n`;
+
+/** Tells it to whoever takes it. Where nobody does, the status is left to tell it. */
+function tell(fault: string): void {
   try {
-    write(ERRORS, new TextEncoder().encode(text));
+    awaited(() => writeSync(ERRORS, fault));
   } catch {
-    // There is nobody to tell.
+    // An error that isn't caught would end Node with the status of a no.
   }
 }
 
-/**
- * Whether the words are text. Node shows bytes that aren't by U+FFFD, and Linux has the words as they were.
- */
-function areText(words: readonly string[]): boolean {
-  if (process.platform !== "linux" || !words.some(word => word.includes("\ufffd"))) return true;
-  try {
-    new TextDecoder("utf-8", { fatal: true }).decode(readFileSync("/proc/self/cmdline"));
-    return true;
-  } catch (error) {
-    return !(error instanceof TypeError);
-  }
+try {
+  setFlagsFromString(LATER);
+  process.exitCode = run();
+} catch (error) {
+  process.exitCode = FAULT_STATUS;
+  tell(faultOf(error));
 }
-
-const empty = new Uint8Array();
-
-/** Does what the words ask for. */
-function runOf(asked: Asked): Run {
-  const { command = "read", paths, options } = asked;
-  if (!LANGUAGES.includes(options.get("language"))) return { out: empty, err: NO_LANGUAGE, status: USAGE_STATUS };
-  const module = new WebAssembly.Module(moduleBytes());
-  return command === "folder"
-    ? auditFolder(module, paths.FOLDER, modeOf(options), tell)
-    : new Task(module, command as Command, asked).run();
-}
-
-function runBy(words: readonly string[]): Run {
-  if (!areText(words)) return { out: empty, err: NO_WORDS, status: USAGE_STATUS };
-  try {
-    return runOf(askedBy(USAGE, words));
-  } catch (error) {
-    if (error instanceof Ended) {
-      const text = new TextEncoder().encode(error.text);
-      return error.isHelp ? { out: text, err: "", status: 0 } : { out: empty, err: error.text, status: USAGE_STATUS };
-    }
-    if (!isOutOfMemory(error)) throw error;
-    return { out: empty, err: "fault memory\n", status: FAULT_STATUS };
-  }
-}
-
-/** Whether the module, or Node, has no memory left. */
-const isOutOfMemory = (error: unknown): boolean =>
-  error instanceof OutOfMemory || (error instanceof RangeError && /memory|allocat/i.test(error.message));
-
-function main(words: readonly string[]): number {
-  const { out, err, status } = runBy(words);
-  try {
-    write(OUTPUT, out);
-  } catch {
-    tell("fault write\n");
-    return FAULT_STATUS;
-  }
-  tell(err);
-  return status;
-}
-
-process.exitCode = main(process.argv.slice(2));

@@ -1,8 +1,14 @@
 /* What the package answers: the program's text and status, and what it says as facts. */
 
-import { lineOf, linesOf, noteOf, readOf, sentenceIn } from "../auditor/lines.js";
-import type { Facts, OnGroups } from "../auditor/facts.js";
-import type { Hint, Line, Note, RefusedLine } from "../auditor/lines.js";
+import { electionOf } from "../auditor/elections.js";
+import { halves } from "../auditor/replies.js";
+import { readLineOf, refusedLineOf, verdictOf } from "../auditor/says.js";
+import { headlineOf, HEADLINES } from "../words/headlines.js";
+import type { Measure } from "../auditor/commands.js";
+import type { Note } from "../auditor/elections.js";
+import type { BothObject, OnGroups, ReadObject, RefusalObject, VerdictObject } from "../auditor/objects.js";
+import type { Hint } from "../auditor/replies.js";
+import type { Line } from "../auditor/says.js";
 
 /** What the program prints, and the status that it ends with. */
 interface Said {
@@ -24,24 +30,32 @@ export interface Refused extends Said {
 }
 
 /**
- * The certificate shows what it claims. `form` is that of prices; `cover` says of a refutation that it is about prices
- * that satisfy condition Cover. `saysOfGroups` is what a yes to prices says of groups of voters, and null where the
- * question isn't one of prices. `notes` are lines of the program beside the answer.
+ * The certificate shows what it claims, or no group of voters falls short. `form` is that of prices; `stable` and `cover`
+ * say of a refutation that it is about stable prices, and about prices that satisfy condition Cover; `measure` is that of
+ * groups. `saysOfGroups` is what a yes to prices says of groups of voters, and null where the question isn't one of
+ * prices. `notes` are lines of the program beside the answer.
  */
 export interface Yes extends Said {
   readonly status: 0;
   readonly answer: "yes";
   readonly form?: "priceable" | "stable";
+  readonly stable?: boolean;
   readonly cover?: boolean;
+  readonly measure?: Measure;
   readonly saysOfGroups: OnGroups | null;
   readonly notes: readonly string[];
 }
 
-/** The first condition or test that is false, and the voter and the project at which it is. */
+/**
+ * The first condition or test that is false, and the voter and the project at which it is. Where a group of voters falls
+ * short, that is `EJR+`, with the measure, and how many voters the largest such group for the project has.
+ */
 export interface No extends Said {
   readonly status: 1;
   readonly answer: "no";
   readonly condition: string;
+  readonly measure?: Measure;
+  readonly voters?: number;
   readonly voter?: number;
   readonly project?: string;
   readonly saysOfGroups: null;
@@ -96,43 +110,41 @@ export interface Reported {
   readonly says: Line;
 }
 
-const OPENING = "a text that isn't the library's";
-
-/** The verdict that a line gives. */
-export function verdictOf(told: Facts, line: string, text: string, notes: readonly string[]): Yes | No {
-  const said = lineOf(told, line), yes = { status: 0, answer: "yes", saysOfGroups: told.saysOfGroups ?? null } as const;
-  if (said?.says === "supported") return { ...yes, form: said.form, notes, text };
-  if (said?.says === "violation") return { ...yes, notes, text };
-  if (said?.says === "unpriceable") return { ...yes, cover: said.cover, notes, text };
-  if (said?.says !== "failed") throw new Error(OPENING);
+/** A yes or a no, with the text that says it. */
+export function verdictIn(object: VerdictObject, text: string, notes: readonly string[]): Yes | No {
+  const said = verdictOf(object);
+  if (said.says === "failed") {
+    const { says: _, ...facts } = said;
+    return { status: 1, answer: "no", ...facts, saysOfGroups: null, notes, text };
+  }
   const { says: _, ...facts } = said;
-  return { status: 1, answer: "no", ...facts, saysOfGroups: null, notes, text };
+  return { status: 0, answer: "yes", ...facts, saysOfGroups: onGroups(object), notes, text };
 }
 
-export function readingOf(text: string): Reading {
-  const [line, ...notes] = linesOf(text), said = readOf(line);
-  if (!said) throw new Error(OPENING);
-  const { says: _, ...facts } = said;
-  const remarks = notes.map(noteOf).filter((note): note is Note => note !== undefined);
-  return { status: 0, answer: "read", ...facts, notes, remarks, text };
+const onGroups = (object: VerdictObject): OnGroups | null => object.kind === "prices" ? object.groups : null;
+
+export function readingIn(object: ReadObject, text: string, notes: readonly string[]): Reading {
+  const { says: _, ...facts } = readLineOf(object);
+  return { status: 0, answer: "read", ...facts, notes, remarks: electionOf(object.election).notes, text };
 }
 
-export function bothOf(status: number, text: string, { condition, test, saysOfGroups }: Facts): Both {
-  const [first, second] = linesOf(text);
-  const prices = verdictOf({ condition, saysOfGroups }, first, `${first}\n`, []);
-  const violation = verdictOf({ test }, second, `${second}\n`, []);
-  return { ...yesOrNo(status), prices, violation, text };
+export function bothIn({ answer, prices, violation }: BothObject, text: string): Both {
+  const [first, second] = halves(text);
+  return { ...yesOrNo(answer), prices: verdictIn(prices, first, []), violation: verdictIn(violation, second, []), text };
 }
 
-export const pageOf = (status: number, text: string, { saysOfGroups }: Facts): Page =>
-  ({ ...yesOrNo(status), sentence: sentenceIn(text) ?? "", saysOfGroups: saysOfGroups ?? null, text });
+export function pageIn(object: VerdictObject, text: string, language: keyof typeof HEADLINES): Page {
+  const headline = headlineOf(object.kind, verdictOf(object), object.kind === "refutation" && object.stable);
+  return { ...yesOrNo(object.answer), sentence: HEADLINES[language][headline], saysOfGroups: onGroups(object), text };
+}
 
-const yesOrNo = (status: number): { status: 0 | 1; answer: "yes" | "no" } =>
-  status === 0 ? { status, answer: "yes" } : { status: 1, answer: "no" };
+const yesOrNo = (answer: "yes" | "no"): { status: 0 | 1; answer: "yes" | "no" } =>
+  ({ status: answer === "yes" ? 0 : 1, answer });
 
-export function refusalOf({ says: _, input, ...facts }: RefusedLine, text: string, { line, sentences }: Hint): Refused {
+export function refusalIn(refusal: RefusalObject, text: string, hint: Hint | null): Refused {
+  const { says: _, ...facts } = refusedLineOf(refusal), line = hint?.line ?? null;
   return {
-    status: 2, answer: "refused", input: input as Refused["input"], ...facts, ...line > 0 ? { line } : {},
-    hint: sentences, saysOfGroups: null, text,
+    status: 2, answer: "refused", ...facts, input: refusal.input, ...line === null ? {} : { line },
+    hint: hint?.sentences ?? [], saysOfGroups: null, text,
   };
 }

@@ -1,30 +1,28 @@
 /* The auditor for JavaScript: the proved library's answers, with what they say as facts. */
 
-import { Keeper } from "../auditor/keeper.js";
-import { linesOf, refusedOf } from "../auditor/lines.js";
-import { hintOn } from "../auditor/refusals.js";
-import { LONGEST_FILE, NO_MEMORY, OutOfMemory } from "../auditor/statuses.js";
-import { ENDINGS, entriesOf } from "./entries.js";
-import { bothOf, pageOf, readingOf, refusalOf, verdictOf } from "./facts.js";
-import { folderIn, handedIn } from "./handed.js";
-import { moduleBytes } from "./module.js";
-import { ASKED, reportOf } from "./report.js";
-import type { Auditor as Calls, Reply } from "../auditor/auditor.js";
-import type { Command, Place, Question } from "../auditor/commands.js";
-import type { Facts } from "../auditor/facts.js";
+import { OutOfMemory } from "../auditor/statuses.js";
+import { Here, Later } from "./answering.js";
+import { bytesOf, folderIn, handedIn } from "./handed.js";
+import { Library } from "./library.js";
+import { compiledModule } from "./module.js";
+import type { Measure } from "../auditor/commands.js";
 import type { Mode } from "../auditor/statuses.js";
-import type { EntryRole } from "./entries.js";
 import type { Both, Page, Reading, Refused, Report, Verdict, Written } from "./facts.js";
-import type { CallName, Handed, Names, Source } from "./handed.js";
+import type { CallName, Names, Source } from "./handed.js";
+import type { AsyncAuditor } from "./later.js";
+import type { Answers } from "./library.js";
 
 export { OutOfMemory };
-export type { Both, Mode, Page, Reading, Refused, Report, Verdict, Written };
+export type { Both, Measure, Mode, Page, Reading, Refused, Report, Verdict, Written };
 export type { No, Reported, Yes } from "./facts.js";
 export type { Names, Source } from "./handed.js";
-export type { OnGroups } from "../auditor/facts.js";
+export type { AsyncAuditor, LaterFor, WorkerAuditor } from "./later.js";
+export type { AnySource, BlobSource, StreamSource } from "./sources.js";
+export type { Note } from "../auditor/elections.js";
+export type { OnGroups } from "../auditor/objects.js";
 export type {
-  Failed, Line, Note, ReadLine, RefusedLine, Supported, Unpriceable, Violated,
-} from "../auditor/lines.js";
+  Failed, Line, ReadLine, RefusedLine, Satisfied, Supported, Unpriceable, Violated,
+} from "../auditor/says.js";
 
 /** The outcome in the place of the election's own. */
 export interface ForOutcome {
@@ -33,6 +31,16 @@ export interface ForOutcome {
 
 /** What is asked of prices: usually condition Exhaustive too, and neither the stable form nor condition Cover. */
 export interface ForPrices extends ForOutcome, Partial<Mode> {}
+
+/** What is asked of a refutation: whether it refutes stable prices alone, where it doesn't refute all. */
+export interface ForRefutation extends ForOutcome {
+  readonly stable?: boolean;
+}
+
+/** By what it is said what voters got: usually by what their funded projects cost, or by how many they are. */
+export interface ForGroups extends ForOutcome {
+  readonly satisfaction?: Measure;
+}
 
 type Code = "en" | "pl" | "de" | "fr";
 type AnyCode = Code | Uppercase<Code>;
@@ -45,131 +53,111 @@ export interface ForPage extends ForPrices {
   readonly names?: Names;
 }
 
-/** Each answers as the program's command of its name does. Out of memory, each throws OutOfMemory. */
+/** How the answer on groups is put on a page, and the names by which that calls the files. */
+export interface ForGroupsPage extends ForGroups {
+  readonly language?: Language;
+  readonly names?: Omit<Names, "certificate">;
+}
+
+/**
+ * Each answers as the program's command of its name does; explainGroups, groupMargins and groupsPage as `explain`, `margins`
+ * and `page` with `--groups`. Out of memory, each throws OutOfMemory.
+ */
 export interface Auditor {
   read(election: Source): Reading | Refused;
+  groups(election: Source, asked?: ForGroups): Verdict;
   prices(election: Source, certificate: Source, asked?: ForPrices): Verdict;
   violation(election: Source, certificate: Source, asked?: ForOutcome): Verdict;
-  refutation(election: Source, certificate: Source, asked?: ForOutcome): Verdict;
+  refutation(election: Source, certificate: Source, asked?: ForRefutation): Verdict;
   both(election: Source, prices: Source, violation: Source, asked?: ForPrices): Both | Refused;
   explain(election: Source, certificate: Source, asked?: ForPrices): Verdict;
   page(election: Source, certificate: Source, asked?: ForPage): Page | Refused;
   margins(election: Source, certificate: Source, asked?: ForOutcome): Written | Refused;
+  explainGroups(election: Source, asked?: ForGroups): Verdict;
+  groupMargins(election: Source, asked?: ForGroups): Written | Refused;
+  groupsPage(election: Source, asked?: ForGroupsPage): Page | Refused;
   tidy(election: Source, certificate: Source): Written | Refused;
   /** The files of a folder by their names. */
   folder(files: Iterable<readonly [string, Source]>, asked?: Partial<Mode>): Report;
 }
 
-/** A file in the module's memory. Of one that is too long there is enough that it is refused for that. */
-const put = (calls: Calls, bytes: Uint8Array): Place => calls.put(bytes.subarray(0, LONGEST_FILE + 1));
-
-function answered(reply: Reply): Reply {
-  if (reply.status === NO_MEMORY) throw new OutOfMemory();
-  return reply;
-}
-
-/** One call: its files, and what is asked of them. */
-class Call {
-  readonly asked: Question;
-
-  constructor(private readonly calls: Calls, { files, mode, language, names }: Handed) {
-    const nameOf = (role: keyof Names): Place => calls.putText(names[role] ?? role);
-    const places = Object.entries(files).map(([role, bytes]) => [role, put(calls, bytes)]);
-    this.asked = {
-      files: Object.fromEntries(places), mode, language: calls.putText(language),
-      names: { election: nameOf("election"), outcome: nameOf("outcome"), certificate: nameOf("certificate") },
-    };
-  }
-
-  ask(command: Command): Reply {
-    return answered(this.calls.ask(command, this.asked));
-  }
-
-  /** What a command answers, or the refusal of a file. */
-  answer<Answer>(command: Command, says: (status: number, text: string, facts: Facts) => Answer): Answer | Refused {
-    const { status, bytes, facts } = this.ask(command), text = new TextDecoder().decode(bytes), { fault } = facts;
-    if (!fault) return says(status, text, facts);
-    return refusalOf(refusedOf(fault, text), text, hintOn(this.calls, command, this.asked, fault));
-  }
-
-  /** What the program remarks beside an answer: on the election, and on a yes to prices that says little. */
-  notes({ saysOfGroups }: Facts): string[] {
-    const asked: Command[] = saysOfGroups === "little" ? ["read", "note"] : ["read"];
-    const [[, ...notes], more = []] = asked.map(command => linesOf(new TextDecoder().decode(this.ask(command).bytes)));
-    return [...notes, ...more];
-  }
-}
-
-const written = (_: number, text: string): Written => ({ status: 0, answer: "written", text });
-
-/** The module as one auditor. No call sees what the one before it left in memory. */
-class Library implements Auditor {
-  private readonly keeper: Keeper;
+/** The auditor of files that are at hand. */
+class AtHand implements Auditor {
+  private readonly library: Library;
 
   constructor(module: WebAssembly.Module) {
-    this.keeper = new Keeper(module);
+    this.library = new Library(module);
   }
 
-  private call<Answer>(name: CallName, handed: readonly unknown[], does: (call: Call) => Answer): Answer {
-    const given = handedIn(name, handed);
-    return this.keeper.use(calls => does(new Call(calls, given)));
+  private answer<Name extends CallName>(name: Name, handed: readonly unknown[]): Answers[Name] {
+    return this.library.answer(name, handedIn(name, handed, bytesOf));
   }
 
-  private verdict(name: CallName, handed: readonly unknown[]): Verdict {
-    return this.call(name, handed, call => call.answer(name, (_, text, facts) => {
-      const [line] = linesOf(text);
-      return verdictOf(facts, line, text, call.notes(facts));
-    }));
+  read(...handed: unknown[]): Answers["read"] {
+    return this.answer("read", handed);
   }
 
-  read(...handed: unknown[]): Reading | Refused {
-    return this.call("read", handed, call => call.answer("read", (_, text) => readingOf(text)));
+  groups(...handed: unknown[]): Answers["groups"] {
+    return this.answer("groups", handed);
   }
 
-  prices(...handed: unknown[]): Verdict {
-    return this.verdict("prices", handed);
+  prices(...handed: unknown[]): Answers["prices"] {
+    return this.answer("prices", handed);
   }
 
-  violation(...handed: unknown[]): Verdict {
-    return this.verdict("violation", handed);
+  violation(...handed: unknown[]): Answers["violation"] {
+    return this.answer("violation", handed);
   }
 
-  refutation(...handed: unknown[]): Verdict {
-    return this.verdict("refutation", handed);
+  refutation(...handed: unknown[]): Answers["refutation"] {
+    return this.answer("refutation", handed);
   }
 
-  both(...handed: unknown[]): Both | Refused {
-    return this.call("both", handed, call => call.answer("both", bothOf));
+  both(...handed: unknown[]): Answers["both"] {
+    return this.answer("both", handed);
   }
 
-  explain(...handed: unknown[]): Verdict {
-    return this.verdict("explain", handed);
+  explain(...handed: unknown[]): Answers["explain"] {
+    return this.answer("explain", handed);
   }
 
-  page(...handed: unknown[]): Page | Refused {
-    return this.call("page", handed, call => call.answer("page", pageOf));
+  page(...handed: unknown[]): Answers["page"] {
+    return this.answer("page", handed);
   }
 
-  margins(...handed: unknown[]): Written | Refused {
-    return this.call("margins", handed, call => call.answer("margins", written));
+  margins(...handed: unknown[]): Answers["margins"] {
+    return this.answer("margins", handed);
   }
 
-  tidy(...handed: unknown[]): Written | Refused {
-    return this.call("tidy", handed, call => call.answer("tidy", written));
+  explainGroups(...handed: unknown[]): Answers["explainGroups"] {
+    return this.answer("explainGroups", handed);
+  }
+
+  groupMargins(...handed: unknown[]): Answers["groupMargins"] {
+    return this.answer("groupMargins", handed);
+  }
+
+  groupsPage(...handed: unknown[]): Answers["groupsPage"] {
+    return this.answer("groupsPage", handed);
+  }
+
+  tidy(...handed: unknown[]): Answers["tidy"] {
+    return this.answer("tidy", handed);
   }
 
   folder(...handed: unknown[]): Report {
-    const { files, mode } = folderIn(handed);
-    return reportOf(entriesOf([...files.keys()]), ({ name }, does) => this.keeper.use(calls => {
-      const fileOf = (role: EntryRole): Place => put(calls, files.get(`${name}${ENDINGS[role]}`)!());
-      const election = fileOf("election");
-      return does(role => {
-        const certificate = role === "election" ? {} : { certificate: fileOf(role) };
-        return answered(calls.answer(ASKED[role], { files: { election, ...certificate }, names: {}, mode }));
-      });
+    // Text has its bytes made when its turn comes, so that not those of all files are there at once.
+    return this.library.folder(folderIn(handed, (source, name) => {
+      bytesOf(source, name);
+      return () => bytesOf(source, name);
     }));
   }
 }
 
 /** The auditor, once its module is compiled. */
-export const auditor = async (): Promise<Auditor> => new Library(await WebAssembly.compile(moduleBytes()));
+export const auditor = async (): Promise<Auditor> => new AtHand(await compiledModule());
+
+/** The same, of files that may still have to be read. */
+export async function asyncAuditor(): Promise<AsyncAuditor> {
+  return new Later(new Here(new Library(await compiledModule())));
+}

@@ -1,4 +1,4 @@
-/* The bytes of the module, which the package has as text, so that no file is looked for. */
+/* The module, which the package has as text, so that no file is looked for. */
 
 import { MODULE } from "./generated.js";
 
@@ -7,3 +7,5 @@ export function moduleBytes(): Uint8Array {
   for (let at = 0; at < text.length; at++) bytes[at] = text.charCodeAt(at);
   return bytes;
 }
+
+export const compiledModule = (): Promise<WebAssembly.Module> => WebAssembly.compile(moduleBytes());

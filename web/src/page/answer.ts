@@ -1,6 +1,6 @@
 /* The answer of an audit: the page that the library wrote, in a frame in which no script runs; or why there is none. */
 
-import { NO_OUTCOME } from "../auditor/facts.js";
+import { NO_OUTCOME } from "../auditor/objects.js";
 import { LONGEST_LINE, shortened, shownLine, toldName, visible } from "../files/names.js";
 import { fill } from "../words/words.js";
 import { element, elementOf, make } from "./elements.js";
@@ -40,7 +40,7 @@ export function showAnswer(words: Words, audit: Audit): void {
  * Shows the library's page. The policy holds in the frame as well, and allows no style in an attribute. There the page
  * has the lengths of its bars: they go by another name until the page stands, and are then set.
  */
-function showPage(place: HTMLIFrameElement, page: string): void {
+export function showPage(place: HTMLIFrameElement, page: string): void {
   place.onload = () => {
     const styled = [...place.contentDocument?.querySelectorAll<HTMLElement>("[data-style]") ?? []];
     for (const each of styled) each.style.cssText = each.dataset.style ?? "";

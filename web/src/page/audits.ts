@@ -1,10 +1,12 @@
 /* The audits: what is to be done, and what became of it. */
 
-import { lineOf, linesOf, sentenceIn } from "../auditor/lines.js";
+import { weightOf } from "../auditor/groups.js";
 import { isSameMode, LONGEST_FILE, NO, REFUSED, USUAL_MODE, YES } from "../auditor/statuses.js";
 import type { Command } from "../auditor/commands.js";
-import type { OnGroups } from "../auditor/facts.js";
-import type { Line } from "../auditor/lines.js";
+import type { Note, ReadElection } from "../auditor/elections.js";
+import type { FirstAnswers } from "../auditor/groups.js";
+import type { OnGroups } from "../auditor/objects.js";
+import type { Line } from "../auditor/says.js";
 import type { Mode } from "../auditor/statuses.js";
 import type { Piece, Task } from "../files/pieces.js";
 import type { Answer, Ending, Files, Nothing, Order, Refused, Sums } from "../worker/orders.js";
@@ -18,11 +20,15 @@ export interface Problem {
   readonly detail?: string;
 }
 
+/** What becomes of the part of an answer that comes after the first. */
+export type Remaining = "awaited" | "stopped" | "failed";
+
 /**
  * An audit and how far it is. `mode` is how prices were asked, `line` what the program prints first, `said` what that
- * says of an answer, `notes` what it remarks on the election, `groups` what a yes to prices says of groups; `page` is
- * the answer for people, once it was asked for, and `sentence` its head. All that is told is of one look at the files,
- * whose bytes have these sums.
+ * says of an answer, `notes` what it remarks on the election, `groups` what a yes to prices says of groups; of an
+ * election alone `read` is what it has, and `short` whether a group of its voters falls short; `page` is the answer for
+ * people, once it was asked for. All that is told is of one look at the files, whose bytes have these sums. Where an
+ * answer isn't whole, `remaining` says why.
  */
 export interface Audit {
   readonly task: Task;
@@ -32,10 +38,12 @@ export interface Audit {
   readonly status?: number;
   readonly line?: string;
   readonly said?: Line;
-  readonly notes?: readonly string[];
+  readonly notes?: readonly Note[];
   readonly groups?: OnGroups | null;
+  readonly read?: ReadElection;
+  readonly short?: FirstAnswers;
   readonly page?: string;
-  readonly sentence?: string;
+  readonly remaining?: Remaining;
   readonly refused?: Refused;
   readonly problem?: Problem;
 }
@@ -46,11 +54,22 @@ export const newAudit = (task: Task): Audit =>
 /** The file that an audit is called by. */
 export const fileOf = ({ task }: Audit): File => (task.certificate ?? task.election)!.file;
 
-/** What a certificate is about, by which the answers are told apart that are bad news: a No to prices, a violation. */
-const isBad = ({ task, status, problem }: Audit): boolean => {
+/** Which answers are bad news: a No to prices, a violation or a refutation that was shown, a group that falls short. */
+export const isBad = ({ task, status, problem, short }: Audit): boolean => {
   if (problem || status === undefined) return false;
-  return task.certificate?.kind === "prices" ? status === NO : task.certificate !== null && status === YES;
+  if (!task.certificate) return short !== undefined && status === NO;
+  return task.certificate.kind === "prices" ? status === NO : status === YES;
 };
+
+/**
+ * The elections of a list by how near they are to having a group that falls short, or by how large a part of the voters
+ * falls short. Those without a group come last.
+ */
+function nearer({ short: one }: Audit, { short: other }: Audit): number {
+  const [a, b] = [one?.cost, other?.cost], [first, second] = [a && weightOf(a), b && weightOf(b)];
+  if (!first || !second) return Number(!first) - Number(!second);
+  return Number(second.numerator * first.denominator - first.numerator * second.denominator);
+}
 
 /** The audits as they are listed: bad news, refusals and what has no answer come first. */
 export function inOrder(audits: readonly Audit[]): Audit[] {
@@ -58,12 +77,13 @@ export function inOrder(audits: readonly Audit[]): Audit[] {
     if (audit.state === "waiting" || audit.state === "running") return 3;
     return isBad(audit) ? 0 : audit.status === REFUSED || audit.problem ? 1 : audit.state === "done" ? 3 : 2;
   };
-  return [...audits].sort((a, b) => rank(a) - rank(b));
+  const isAlone = audits.every(({ task }) => !task.certificate);
+  return [...audits].sort((a, b) => rank(a) - rank(b) || (isAlone ? nearer(a, b) : 0));
 }
 
-/** An election that has no certificate and was read. */
-export const isRead = ({ task, state, status }: Audit): boolean =>
-  !task.certificate && state === "done" && status === YES;
+/** An election that has no certificate and was read, and doesn't say which projects are funded. */
+export const isRead = ({ task, state, status, short }: Audit): boolean =>
+  !task.certificate && state === "done" && status === YES && !short;
 
 /** A file of the task that is longer than any that is read. */
 export const tooLong = ({ election, certificate, outcome }: Task): Piece | undefined =>
@@ -87,20 +107,27 @@ const WARMING_ROUNDS = 100;
 export const warm = (runners: Runners, task: Task): Promise<unknown> =>
   runners.run({ ...orderOf(task, "page", USUAL_MODE, "en"), rounds: WARMING_ROUNDS });
 
+/** Whether two looks at an election, and at an outcome file where both were at one, saw the same bytes. */
+export const isSameLook = (one: Sums = [], other: Sums = []): boolean =>
+  [0, 1].every(at => !one[at] || !other[at] || one[at] === other[at]);
+
 /** What an answer says. */
-function foundBy(command: Command, { bytes, facts }: Answer): Partial<Audit> {
-  const text = new TextDecoder().decode(bytes);
-  if (command === "page") return { page: text, sentence: sentenceIn(text) };
-  const [line, ...notes] = linesOf(text), said = lineOf(facts, line);
-  return command === "read" ? { line, said, notes } : { line, said };
+function foundBy(command: Command, { text, line, said, notes, groups, read, short }: Answer): Partial<Audit> {
+  const page = command === "page" && text ? { page: new TextDecoder().decode(text) } : {};
+  const its = line === undefined ? {} : { line, said, notes, groups };
+  return { ...page, ...its, ...read ? { read, short } : {} };
 }
+
+/** That an answer isn't whole, since it was stopped, or since there is none to the rest. */
+const withoutRest = (audit: Audit, told: NoAnswer | undefined): Audit =>
+  ({ ...audit, remaining: told ? "failed" : "stopped" });
 
 /**
  * The audit with what was told of it. What was told before is kept if it was of the same bytes, asked in the same way.
  */
-export function answered(
-  { task, mode }: Audit, told: Ending | NoAnswer | undefined, command: Command, before: Audit,
-): Audit {
+export function answered(now: Audit, told: Ending | NoAnswer | undefined, command: Command, before: Audit): Audit {
+  const { task, mode } = now;
+  if (now.remaining && (!told || told.tells === "nothing")) return withoutRest(now, told);
   if (!told) return { task, state: "stopped" };
   if (told.tells === "refused") {
     return { task, mode, state: "done", status: REFUSED, line: told.text, refused: told, sums: told.sums };
@@ -110,6 +137,5 @@ export function answered(
   const { status, sums } = told;
   const isSame = `${before.sums}` === `${sums}` && isSameMode(before.mode, mode);
   const kept = isSame ? { line: before.line, said: before.said, notes: before.notes, groups: before.groups } : {};
-  const notes = told.notes ? { notes: told.notes, groups: told.groups } : {};
-  return { task, mode, state: "done", status, sums, ...kept, ...foundBy(command, told), ...notes };
+  return { task, mode, state: "done", status, sums, ...kept, ...foundBy(command, told) };
 }

@@ -11,8 +11,21 @@ import type { Mode } from "../auditor/statuses.js";
 import type { Piece } from "../files/pieces.js";
 import type { Summary } from "../elections/election.js";
 import type { Words } from "../words/words.js";
+import type { Answer } from "../worker/orders.js";
 import type { FindEnding, Finder } from "./finder.js";
-import type { FailedAnyway, Page } from "./page.js";
+import type { Page } from "./page.js";
+
+/** A condition on the outcome alone that fails, and the line that says so: no payments would change it. */
+export interface FailedAnyway {
+  readonly name: "Feasible" | "Exhaustive";
+  readonly line: string;
+}
+
+/** Which condition on the outcome alone fails, by the auditor's answer to prices by which nobody pays anything. */
+export function failingBy({ said, line = "" }: Answer): FailedAnyway | undefined {
+  const name = said?.says === "failed" ? said.condition : "";
+  return name === "Feasible" || name === "Exhaustive" ? { name, line } : undefined;
+}
 
 export interface Desk {
   readonly page: Page;
@@ -28,10 +41,14 @@ export interface Desk {
 
 const LONGEST_CURRENCY = 12;
 
-/** An amount, with the currency that the file names. */
-export function moneyIn({ page, summary }: Pick<Desk, "page" | "summary">, amount: bigint): string {
-  const currency = [...summary.facts.get("currency") ?? ""].slice(0, LONGEST_CURRENCY).join("");
-  return `${amountIn(amount, page.language)}${currency ? ` ${toldName(currency)}` : ""}`;
+/** The currency that the file names, or nothing. */
+export const currencyOf = ({ summary }: Pick<Desk, "summary">): string =>
+  toldName([...summary.facts.get("currency") ?? ""].slice(0, LONGEST_CURRENCY).join(""));
+
+/** An amount, with the currency. */
+export function moneyIn(desk: Pick<Desk, "page" | "summary">, amount: bigint): string {
+  const currency = currencyOf(desk);
+  return `${amountIn(amount, desk.page.language)}${currency ? ` ${currency}` : ""}`;
 }
 
 /** A share of the limit, which may have no end, without what is less than hundredths. */

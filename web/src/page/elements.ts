@@ -1,5 +1,6 @@
 /* Elements of the page. All text reaches it as text, and never as markup. */
 
+import { savedAs } from "../files/names.js";
 import { formatIn } from "../words/formats.js";
 
 export function element(id: string): HTMLElement {
@@ -34,6 +35,16 @@ export function make(
   return made;
 }
 
+/** A new element of a picture. */
+export function makeSvg(
+  name: string, attributes: Readonly<Record<string, string>>, ...inside: SVGElement[]
+): SVGElement {
+  const made = document.createElementNS("http://www.w3.org/2000/svg", name);
+  for (const [key, value] of Object.entries(attributes)) made.setAttribute(key, value);
+  made.append(...inside);
+  return made;
+}
+
 /** A button with a word on it, and what it is called where it is read out. */
 export const makeButton = (word: string, label: string, click: () => void): HTMLElement =>
   make("button", { type: "button", label, click }, word);
@@ -51,9 +62,9 @@ export function makeChoice(
 const KEPT_MILLISECONDS = 60_000;
 
 /** Hands a file to the one who sits there, to be saved. */
-export function saveAs(name: string, content: BlobPart, type: string): void {
-  const url = URL.createObjectURL(new Blob([content], { type }));
-  const link = make("a", { href: url, download: name });
+export function saveAs(name: string, type: string, ...content: BlobPart[]): void {
+  const url = URL.createObjectURL(new Blob(content, { type }));
+  const link = make("a", { href: url, download: savedAs(name) });
   document.body.append(link);
   link.click();
   link.remove();

@@ -1,7 +1,7 @@
 /* The worker that does what the page asks: one order at a time, which can be stopped. */
 
 import { bytesOf, element } from "./elements.js";
-import type { Answer, Asked, Ending, Files, Nothing, Sent, Step, Told } from "../worker/orders.js";
+import type { Answer, Asked, Ending, Files, Message, Nothing, Sent, Step } from "../worker/orders.js";
 
 /** A worker that tells nothing for so many milliseconds was never let run. */
 const LONGEST_START = 30_000;
@@ -32,7 +32,7 @@ export function makeEngine(): Engine {
   return { module, script };
 }
 
-/** What is told while an order is done: how far it is, or an answer after which notes come. */
+/** What is told while an order is done: how far it is, or an answer after which the rest comes. */
 export type Meanwhile = Step | Answer;
 
 /** A worker that has more memory than this is ended after an order, which gives it back. */
@@ -91,7 +91,7 @@ export class Runner {
   }
 
   /**
-   * Gives the worker an order, and answers what it tells last. Where notes come after the answer, this is told first. A
+   * Gives the worker an order, and answers what it tells last. An answer after which the rest comes is told first. A
    * worker that ends before it is there was never let run.
    */
   private done(
@@ -101,7 +101,7 @@ export class Runner {
     const worker = this.worker ??= new Worker(this.engine.script);
     return new Promise((resolve, reject) => {
       if (!isReady) setTimeout(() => isReady || reject(new NoEngine(NO_WORKER)), LONGEST_START);
-      worker.onmessage = ({ data }: MessageEvent<Told>) => {
+      worker.onmessage = ({ data }: MessageEvent<Message>) => {
         if (!isReady) worker.postMessage(this.sent.of(order));
         isReady = true;
         if (data.tells === "answer") answer = data;
@@ -142,6 +142,6 @@ export class Runners {
   }
 }
 
-/** An answer with the notes that came after it. */
+/** An answer with what came after it. */
 const wholeOf = (ending: Ending, answer: Answer | undefined): Ending =>
-  ending.tells === "notes" && answer ? { ...answer, notes: ending.notes, groups: ending.groups } : ending;
+  ending.tells === "rest" && answer ? { ...answer, ...ending, tells: "answer" } : ending;

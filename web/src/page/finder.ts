@@ -21,6 +21,8 @@ export class Finder {
   private worker: Worker | undefined;
   private readonly waiting = new Map<number, Waiting>();
   private count = 0;
+  /** Whether nothing more can be asked. */
+  isClosed = false;
   /** The election that the worker has read. */
   private read: ReadOrder | undefined;
 
@@ -31,6 +33,7 @@ export class Finder {
 
   /** Gives an order, and answers what is told last. */
   ask(content: FindOrder, tell: (progress: FindProgress) => void = () => {}): Promise<FindEnding> {
+    if (this.isClosed) return Promise.resolve(TRAP);
     if (content.asks === "read") this.read = content;
     const number = ++this.count, worker = this.worker ?? this.begun(content);
     return new Promise(resolve => {
@@ -59,6 +62,7 @@ export class Finder {
 
   /** Ends the worker, and all that it was asked. */
   close(): void {
+    this.isClosed = true;
     this.rest();
     URL.revokeObjectURL(this.url);
   }

@@ -45,6 +45,7 @@ export class GroupPanel {
   }
 
   draw(): void {
+    if (this.desk.finder.isClosed) return;
     const { figures } = this, { words } = this.desk.page, panel = element("group");
     panel.hidden = !figures;
     if (!figures) return panel.replaceChildren();

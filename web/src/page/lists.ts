@@ -17,7 +17,7 @@ import type { Page } from "./page.js";
 
 const KINDS: readonly Kind[] = ["election", "prices", "violation", "refutation", "outcome"];
 
-const kindWord = (words: Words, kind: Kind): string => ({
+export const kindWord = (words: Words, kind: Kind): string => ({
   election: words.isElection, prices: words.isPrices, violation: words.isViolation,
   refutation: words.isRefutation, outcome: words.isOutcome, unknown: words.isUnknown,
 })[kind];
@@ -64,21 +64,28 @@ function belowOf(page: Page, audit: Audit): HTMLElement[] {
     const told = fill(words.checkedWith, { election: toldName(election.file.name), outcome: whose });
     below.push(make("span", { class: "soft with" }, told));
   }
-  if (mode && ofWhat(words, audit)) below.push(make("span", { class: "soft with asked" }, askedIn(words, mode)));
+  if (!certificate && outcome) {
+    below.push(make("span", { class: "soft with" }, `${words.outcome}: ${toldName(outcome.file.name)}`));
+  }
+  if (mode && certificate?.kind === "prices" && ofWhat(words, audit)) {
+    below.push(make("span", { class: "soft with asked" }, askedIn(words, mode)));
+  }
   if (groups && (isAlone(page) || groups === "little")) {
     below.push(make("span", { class: "groups" }, groupsIn(words, audit)));
   }
   return [...below, ...(notes ?? []).map(note => make("span", { class: "note" }, noteLine(page, note)))];
 }
 
+const isShown = ({ shown, short }: Page, audit: Audit): boolean => shown === audit || short === audit;
+
 /** The buttons of an audit: to show its answer, or to make it again where it has none. */
 function buttonsOf(page: Page, audit: Audit): HTMLElement[] {
-  const { words } = page, { task, state, problem } = audit, file = toldName(fileOf(audit).name);
-  const canShow = audit.page !== undefined || audit.refused || (task.certificate && !problem);
-  if (state === "stopped" || problem) {
+  const { words } = page, { task, state, problem, remaining } = audit, file = toldName(fileOf(audit).name);
+  const canShow = audit.page !== undefined || audit.refused || audit.short || (task.certificate && !problem);
+  if (state === "stopped" || problem || remaining === "stopped" || remaining === "failed") {
     return [makeButton(words.checkAgain, `${words.checkAgain}: ${file}`, () => page.again(audit))];
   }
-  if (state !== "done" || page.shown === audit || !canShow) return [];
+  if (state !== "done" || isShown(page, audit) || !canShow) return [];
   return [makeButton(words.show, fill(words.showPage, { file }), () => page.show(audit))];
 }
 
@@ -86,7 +93,7 @@ function buttonsOf(page: Page, audit: Audit): HTMLElement[] {
 export function auditItem(page: Page, audit: Audit): HTMLElement {
   const { task, state } = audit, piece = (task.certificate ?? task.election)!;
   return make(
-    "li", { "data-state": state, ...page.shown === audit ? { class: "shown" } : {} },
+    "li", { "data-state": state, ...isShown(page, audit) ? { class: "shown" } : {} },
     badgeOf(page.words, audit),
     make("span", { class: "grows" }, nameOf(piece), make("br"), sentenceOf(page, audit), ...belowOf(page, audit)),
     ...buttonsOf(page, audit),

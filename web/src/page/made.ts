@@ -12,7 +12,7 @@ export const madeFile = (content: Blob, election: Piece, ending: string): File =
 
 export const saveButton = (words: Words, file: File): HTMLElement => {
   const word = fill(words.saveFile, { file: toldName(file.name) });
-  return makeButton(word, word, () => saveAs(file.name, file, "text/csv"));
+  return makeButton(word, word, () => saveAs(file.name, "text/csv", file));
 };
 
 /** That a certificate was given to the auditor, with what can be done with it now. */

@@ -3,7 +3,6 @@
 import { toldName } from "../files/names.js";
 import { isCertificate, pathOf, sheetsAmong } from "../files/pieces.js";
 import { fill } from "../words/words.js";
-import { isRead } from "./audits.js";
 import { make } from "./elements.js";
 import { MOST_CHOICES } from "./choices.js";
 import { someOf } from "./some.js";
@@ -30,7 +29,7 @@ function unusedNote({ words, pieces }: Page, unused: readonly Piece[]): HTMLElem
 }
 
 export function notesOf(page: Page): HTMLElement[] {
-  const { words, pieces, audits, twice, checksums, sheets } = page;
+  const { words, pieces, twice, checksums, sheets } = page;
   const passedOver = page.passedOver.filter(piece => !sheets.uses(piece));
   const ofKind = (kind: Kind): Piece[] => pieces.filter(piece => piece.kind === kind);
   const notes = ofKind("unknown").filter(piece => !sheets.uses(piece))
@@ -39,9 +38,6 @@ export function notesOf(page: Page): HTMLElement[] {
   const replaced = twice.filter(name => pieces.some(piece => pathOf(piece) === name)), unused = unusedOf(page);
   if (replaced.length > 0) notes.push(make("p", {}, fill(words.twice, { names: someOf(words, replaced) })));
   if (unused.length > 0) notes.push(unusedNote(page, unused));
-  if (!pieces.some(isCertificate) && audits.some(isRead)) {
-    notes.push(make("p", { class: "soft" }, words.makeHere));
-  }
   if (passedOver.length > 0) {
     notes.push(make("p", { class: "soft" }, fill(words.passedOver, { names: someOf(words, passedOver.map(pathOf)) })));
   }

@@ -1,24 +1,27 @@
 /* The page: takes files, has them audited, and shows the answers. */
 
-import { linesOf } from "../auditor/lines.js";
-import { isSameMode, USUAL_MODE, YES } from "../auditor/statuses.js";
+import { isSameMode, USUAL_MODE } from "../auditor/statuses.js";
 import { toldName } from "../files/names.js";
 import {
-  choicesAmong, isCertificateKind, isSamePath, pathOf, pieceOf, tasksOf, withPieces,
+  choicesAmong, isCertificate, isCertificateKind, isSamePath, pathOf, pieceOf, tasksOf, withPieces,
 } from "../files/pieces.js";
 import { grouped } from "../words/formats.js";
 import { fill } from "../words/words.js";
 import { LANGUAGES, preferred, wordsOf } from "../words/languages.js";
-import { savedName, showAnswer } from "./answer.js";
+import { showAnswer } from "./answer.js";
 import { answered, newAudit, orderOf, tooLong } from "./audits.js";
+import { Compare } from "./compare.js";
 import { ElectionView } from "./election.js";
 import { element, elementOf, input, Items, refill, saveAs } from "./elements.js";
 import { makeEngine, Runners } from "./engine.js";
 import { auditItem, isAlone, pieceItem } from "./lists.js";
 import { notesOf } from "./notes.js";
+import { GroupsPage } from "./groups_page.js";
+import { Saving } from "./saving.js";
+import { drawShort, isShortAudit } from "./short.js";
 import { SheetsView } from "./sheets.js";
 import { sumListOf } from "./sums.js";
-import { problemSentence, saidOf } from "./told.js";
+import { saidOf } from "./told.js";
 import { drawTools, listed, tableOf } from "./tools.js";
 import { totalsOf } from "./totals.js";
 import { hideWork, showStep, showWork, speak } from "./work.js";
@@ -28,9 +31,10 @@ import type { Mode } from "../auditor/statuses.js";
 import type { Choice, Found, Piece, Task } from "../files/pieces.js";
 import type { Language } from "../words/languages.js";
 import type { Words } from "../words/words.js";
-import type { Answer, Ending } from "../worker/orders.js";
-import type { Audit } from "./audits.js";
+import type { Answer, Ending, Order } from "../worker/orders.js";
+import type { Audit, Remaining } from "./audits.js";
 import type { NoAnswer, Runner } from "./engine.js";
+import type { ShortAudit } from "./short.js";
 import type { Checksums } from "./sums.js";
 
 /** Of more files the list is folded. */
@@ -45,12 +49,28 @@ const NO_PAYMENTS = "pb-prices,1\ndenominator,1\nvoter_budget,0\nvoter,project,p
 const PHONE = "(max-width: 30rem)";
 export const isPhone = (): boolean => matchMedia(PHONE).matches;
 
-type Told = Ending | NoAnswer | undefined;
+export type Told = Ending | NoAnswer | undefined;
 
-/** A condition on the outcome alone that fails, and the line that says so: no payments would change it. */
-export interface FailedAnyway {
-  readonly name: "Feasible" | "Exhaustive";
-  readonly line: string;
+/**
+ * How an order is done, where not as usual: who is told an early answer, how prices are asked, names for a page, and whether
+ * it is that of an audit, of no use without this.
+ */
+export interface How extends Pick<Order, "savedAs"> {
+  readonly note?: (answer: Answer) => void;
+  readonly mode?: Mode;
+  readonly isAudit?: boolean;
+}
+
+/** What somebody asked for, and what is done where it is stopped before its turn. */
+interface Asking {
+  readonly does: () => Promise<void>;
+  readonly dropped: () => void;
+}
+
+/** What the worker is asked about now. */
+interface Working {
+  readonly task: Task;
+  readonly isAudit: boolean;
 }
 
 export class Page {
@@ -58,6 +78,8 @@ export class Page {
   passedOver: readonly Piece[] = [];
   audits: readonly Audit[] = [];
   shown: Audit | null = null;
+  /** The election alone whose answer is shown. It stays when certificates of it are made. */
+  short: ShortAudit | null = null;
   /** Names of which several files came: the last one is used. */
   twice: readonly string[] = [];
   language: Language = preferred(navigator.languages);
@@ -68,15 +90,18 @@ export class Page {
   checksums: Checksums | null = null;
   readonly election = new ElectionView(this);
   readonly sheets = new SheetsView(this);
+  private readonly groupsPage = new GroupsPage(this);
+  readonly compare = new Compare(this);
+  readonly saving = new Saving(this);
   private choices: ReadonlyMap<Piece, Choice> = new Map();
   private taking = Promise.resolve();
   /** What does the audits, while there are any. */
   private runner: Runner | undefined;
   /** What the worker is asked about now, and how that is told. */
-  private working: Task | null = null;
+  private working: Working | null = null;
   private doing = "";
   /** What somebody asked for that isn't done yet. */
-  private asked: (() => Promise<void>)[] = [];
+  private asked: Asking[] = [];
   private isDrawnSoon = false;
   private readonly pieceItems = new Items<Piece>(piece => pieceItem(this, piece));
   private readonly auditItems = new Items<Audit>(audit => auditItem(this, audit));
@@ -137,7 +162,8 @@ export class Page {
 
   /** How a certificate's prices are asked: as the boxes say, and those that this page made as they were looked for. */
   private modeOf({ certificate }: Task): Mode {
-    return certificate?.mode ?? this.mode;
+    const mode = certificate?.mode ?? this.mode;
+    return certificate?.kind === "refutation" ? { ...USUAL_MODE, stable: mode.stable } : mode;
   }
 
   /**
@@ -174,9 +200,9 @@ export class Page {
     this.choices = choicesAmong(this.choices, pieces, replaced);
     this.pieces = pieces;
     this.isNew = true;
-    const isShort = pieces.length <= MOST_IN_SIGHT && !isPhone();
-    const isOpen = isShort || pieces.some(piece => piece.kind === "unknown");
-    elementOf("files-open", HTMLDetailsElement).open = isOpen;
+    const isShort = pieces.length <= MOST_IN_SIGHT && !isPhone() && pieces.some(isCertificate);
+    const files = elementOf("files-open", HTMLDetailsElement), isUsed = files.contains(document.activeElement);
+    files.open = isShort || (files.open && isUsed) || pieces.some(piece => piece.kind === "unknown");
     this.pair();
   }
 
@@ -187,9 +213,27 @@ export class Page {
     this.audits = tasksOf(this.pieces, this.choices)
       .map(task => this.audits.find(audit => isSame(audit.task, task)) ?? newAudit(task));
     if (this.audits.every(audit => audit.task !== this.shown?.task)) this.shown = null;
-    if (this.audits.every(audit => audit.task !== this.working)) this.runner?.stop();
-    this.draw();
+    if (!this.isShortThere()) this.short = null;
+    if (!this.isOfUse()) this.runner?.stop();
+    // Work that begins draws by itself, but of many audits not at once.
+    if (this.runner || this.audits.length > MOST_AT_ONCE) this.draw();
     this.work();
+  }
+
+  /** Whether what the worker does is an audit that is still one, or is about an election that is still there. */
+  private isOfUse(): boolean {
+    const { working, audits, pieces } = this;
+    if (!working) return true;
+    return working.isAudit ? audits.some(({ task }) => task === working.task)
+      : pieces.some(piece => piece === working.task.election);
+  }
+
+  /** Whether the answer on an election alone still holds, and is the one that is wanted: of several it was chosen. */
+  private isShortThere(): boolean {
+    const { short, pieces, audits } = this, { election, outcome } = short?.task ?? { election: null, outcome: null };
+    const isThere = (piece: Piece | null): boolean => !piece || pieces.includes(piece);
+    const other = audits.find(({ task }) => !task.certificate && task.election === election && task !== short?.task);
+    return !!election && isThere(election) && isThere(outcome) && !other;
   }
 
   setKind(piece: Piece, kind: Kind): void {
@@ -235,8 +279,8 @@ export class Page {
     await this.sum();
   }
 
-  choose(certificate: Piece, choice: Choice): void {
-    this.choices = new Map([...this.choices, [certificate, { ...this.choices.get(certificate), ...choice }]]);
+  choose(piece: Piece, choice: Choice): void {
+    this.choices = new Map([...this.choices, [piece, { ...this.choices.get(piece), ...choice }]]);
     this.pair();
   }
 
@@ -244,7 +288,7 @@ export class Page {
   askAnew(): void {
     const isOther = ({ mode, task }: Audit): boolean => mode !== undefined && !isSameMode(mode, this.modeOf(task));
     if (!this.audits.some(isOther)) return this.election.draw();
-    if (this.audits.some(audit => audit.task === this.working && isOther(audit))) this.runner?.stop();
+    if (this.audits.some(audit => audit.task === this.working?.task && isOther(audit))) this.runner?.stop();
     if (this.shown && isOther(this.shown)) this.shown = null;
     this.audits = this.audits.map(audit => isOther(audit) ? newAudit(audit.task) : audit);
     this.draw();
@@ -253,13 +297,16 @@ export class Page {
 
   /** Ends the audit that runs, and lets none begin that waits. */
   stop(): void {
-    this.asked = [];
+    this.compare.stop();
+    this.election.stopReading();
+    for (const { dropped } of this.asked.splice(0)) dropped();
     this.audits = this.audits.map(audit => audit.state === "waiting" ? { ...audit, state: "stopped" } : audit);
     this.runner?.stop();
   }
 
   again(audit: Audit): void {
     if (this.shown === audit) this.shown = null;
+    if (this.short === audit) this.short = null;
     this.put(audit, newAudit(audit.task));
     this.draw();
     this.work();
@@ -268,6 +315,7 @@ export class Page {
   /** Checks again what is about an election, whose file was changed. */
   againFor(election: Piece): void {
     if (this.shown?.task.election === election) this.shown = null;
+    if (this.short?.task.election === election) this.short = null;
     this.audits = this.audits.map(audit => audit.task.election === election ? newAudit(audit.task) : audit);
     this.draw();
     this.work();
@@ -275,51 +323,57 @@ export class Page {
 
   /** Checks all again, by files as they are now. */
   againAll(): void {
-    this.shown = null;
-    this.runner?.stop();
+    this.shown = this.short = null;
+    if (this.working?.isAudit) this.runner?.stop();
     this.audits = this.audits.map(({ task }) => newAudit(task));
     this.draw();
     this.work();
   }
 
   saveList(): void {
-    saveAs("audits.csv", `\ufeff${tableOf(this)}`, "text/csv");
+    saveAs("audits.csv", "text/csv", `\ufeff${tableOf(this)}`);
   }
 
   /** Puts an audit in another's place, where that is still there. */
   private put(old: Audit, audit: Audit): Audit {
     this.audits = this.audits.map(each => each === old ? audit : each);
     if (this.shown === old) this.shown = audit;
+    if (this.short === old) this.short = isShortAudit(audit) ? audit : null;
     return audit;
   }
 
-  /** What the auditor says of an election that it accepts, together with an outcome file; undefined of another one. */
-  async accepted(election: Piece, outcome: Piece | null): Promise<string[] | undefined> {
+  /**
+   * What the auditor says of an election; where it accepts that, but not an outcome file with it, what it says of both.
+   * Undefined if it was stopped.
+   */
+  async accepted(election: Piece, outcome: Piece | null): Promise<Told> {
     const told = await this.order({ election, outcome: null, certificate: null }, "read", election.file.name);
-    if (told?.tells !== "answer" || told.status !== YES) return undefined;
-    const lines = linesOf(new TextDecoder().decode(told.bytes));
-    if (!outcome) return lines;
-    return await this.withoutPayments(election, outcome, USUAL_MODE) ? lines : undefined;
+    if (told?.tells !== "answer" || !outcome) return told;
+    const both = await this.withoutPayments(election, outcome);
+    return both?.tells === "answer" ? told : both;
   }
 
-  /** The answer to prices by which nobody pays anything. */
-  private async withoutPayments(election: Piece, outcome: Piece | null, mode: Mode): Promise<Answer | undefined> {
+  /** What the auditor says of groups for an outcome of an election, unless that isn't wanted any more when its turn comes. */
+  onGroups(election: Piece, outcome: Piece, isEnded: () => boolean): Promise<Told> {
+    return new Promise(resolve => this.inTurn(async () => {
+      const task = { election, outcome, certificate: null };
+      resolve(isEnded() ? undefined : await this.order(task, "groups", outcome.file.name));
+    }, () => resolve(undefined)));
+  }
+
+  /** What the auditor says of prices by which nobody pays anything: first, whether the outcome alone fails. */
+  withoutPayments(election: Piece, outcome: Piece | null): Promise<Told> {
     const certificate = pieceOf({ file: new File([NO_PAYMENTS], "no.prices.csv"), folder: "" });
     const { name } = (outcome ?? election).file;
-    const told = await this.order({ election, outcome, certificate }, "prices", name, undefined, mode);
-    return told?.tells === "answer" ? told : undefined;
+    return this.order({ election, outcome, certificate }, "prices", name, { mode: USUAL_MODE });
   }
 
-  /** The no of an outcome to any prices, by what it costs or leaves in the limit, as the auditor answers it. */
-  async failedAnyway(election: Piece, outcome: Piece | null): Promise<FailedAnyway | undefined> {
-    const told = await this.withoutPayments(election, outcome, USUAL_MODE), name = told?.facts.condition?.name;
-    const [line = ""] = told ? linesOf(new TextDecoder().decode(told.bytes)) : [];
-    return name === "Feasible" || name === "Exhaustive" ? { name, line } : undefined;
-  }
-
-  /** Has something done ahead of the audits that wait, once the one that runs is done. */
-  inTurn(order: () => Promise<void>): void {
-    this.asked.push(order);
+  /**
+   * Has something done ahead of the audits that wait, once the one that runs is done. `dropped` is done instead where somebody
+   * stops it before its turn.
+   */
+  inTurn(does: () => Promise<void>, dropped = (): void => {}): void {
+    this.asked.push({ does, dropped });
     this.work();
   }
 
@@ -331,7 +385,7 @@ export class Page {
     for (;;) {
       const asked = this.asked.shift(), next = this.audits.find(audit => audit.state === "waiting");
       if (!asked && !next) break;
-      if (asked) await asked();
+      if (asked) await asked.does();
       else if (next) await this.answer(next);
       hasWorked = hasWorked || !asked;
     }
@@ -340,38 +394,51 @@ export class Page {
     hideWork();
     this.draw();
     if (hasWorked || this.isNew) this.tell();
-    if (this.isNew && !element("audits").hidden) element("audits").scrollIntoView();
+    this.lead();
+  }
+
+  /** Leads to the answers where files came since the last ones. */
+  private lead(): void {
+    if (this.isNew && !this.election.isLooking && !element("audits").hidden) this.answers.scrollIntoView();
     this.isNew = false;
+  }
+
+  /** What comes first: the answer on the only election, or the list. */
+  private get answers(): HTMLElement {
+    return element(this.short && this.audits.every(({ task }) => !task.certificate) ? "on-groups" : "audits");
   }
 
   /** Does an audit that waits. The only one is shown at once. */
   private answer(audit: Audit): Promise<void> {
     const isOnly = this.audits.length === 1, kind = audit.task.certificate?.kind;
-    const command = isOnly ? "page" : isCertificateKind(kind) ? kind : "read";
+    const command = isOnly ? "page" : isCertificateKind(kind) ? kind : "groups";
     return this.do(audit, command, done => isOnly && this.reveal(done));
   }
 
   /**
-   * Asks a command of an audit's files, and notes what is told: first the answer, and then what the program remarks on
-   * the election.
+   * Asks a command of an audit's files, and notes what is told: of one that is shown first the answer, then the rest. What
+   * was told first `isDrawn` may draw.
    */
-  private async do(audit: Audit, command: Command, whenAnswered: (done: Audit) => void): Promise<void> {
+  private async do(audit: Audit, command: Command, isDrawn: (done: Audit) => boolean): Promise<void> {
     const { task } = audit, { certificate, election } = task, long = tooLong(task);
-    const asked = certificate ? command : "read";
+    const asked = certificate ? command : "groups";
     if (long) {
       this.note(audit, { ...audit, state: "done", problem: { why: "tooLong", file: long.file.name } });
-      return;
+      return this.drawSoon();
     }
-    const mode = certificate?.kind === "prices" ? this.modeOf(task) : undefined;
+    const isAsked = certificate?.kind === "prices" || certificate?.kind === "refutation";
+    const mode = isAsked ? this.modeOf(task) : undefined;
     let now = this.put(audit, { ...audit, state: "running", mode });
-    const note = (told: Told): void => {
-      const isFirst = now.state === "running", done = this.note(now, answered(now, told, asked, audit));
+    const note = (told: Told, remaining?: Remaining): void => {
+      const isFirst = now.state === "running", next = answered(now, told, asked, audit);
+      const done = this.note(now, remaining ? { ...next, remaining } : next);
       now = done ?? now;
-      if (done && isFirst) whenAnswered(done);
+      if (done && !(isFirst && isDrawn(done))) this.drawSoon();
     };
     this.drawSoon();
-    const told = await this.order(task, asked, (certificate ?? election)!.file.name, note);
-    if (told || now.state === "running") note(told);
+    const noteEarly = command === "page" ? (answer: Answer): void => note(answer, "awaited") : undefined;
+    const told = await this.order(task, asked, (certificate ?? election)!.file.name, { note: noteEarly, isAudit: true });
+    note(told);
     this.follow(task, told);
   }
 
@@ -382,16 +449,14 @@ export class Page {
     this.set(this.pieces.map(each => each === certificate ? { ...each, kind, isTold: true } : each));
   }
 
-  /** Has the worker do a command, and shows how far it is. `note` is called with an answer after which notes come. */
-  private async order(
-    task: Task, command: Command, name: string, note?: (answer: Answer) => void, mode = this.modeOf(task),
-  ): Promise<Told> {
+  /** Has the worker do a command, and shows how far it is. `note` is called with an answer after which the rest comes. */
+  async order(task: Task, command: Command, name: string, how: How = {}): Promise<Told> {
+    const { note, mode = this.modeOf(task), savedAs, isAudit = false } = how;
     this.doing = fill(this.words.checking, { file: toldName(name) });
     if (!this.isLong || element("work").hidden) this.drawWork();
-    this.working = task;
+    this.working = { task, isAudit };
     const next = this.audits.find(({ state }) => state === "waiting")?.task;
-    const asked = orderOf(task, command, mode, this.language, next);
-    const order = { ...asked, notes: !!note && command !== "read" };
+    const order = { ...orderOf(task, command, mode, this.language, next), isEarly: note !== undefined, savedAs };
     const told = await this.runner?.run(order, step =>
       step.tells === "answer" ? note?.(step) : this.isLong || showStep(this.words, step, toldName(name)));
     this.working = null;
@@ -409,52 +474,54 @@ export class Page {
   /** Notes what became of an audit. */
   private note(old: Audit, audit: Audit): Audit | undefined {
     if (!this.audits.includes(old)) return undefined;
-    this.put(old, audit);
-    this.drawSoon();
-    return audit;
+    return this.put(old, audit);
   }
 
   /** Leads to an audit's answer. */
   show(audit: Audit): void {
     this.isNew = false;
     this.open(audit, () => {
-      element("answer").scrollIntoView();
-      element("answer").focus({ preventScroll: true });
+      const answer = element(isShortAudit(audit) ? "on-groups" : "answer");
+      answer.scrollIntoView();
+      answer.focus({ preventScroll: true });
     });
   }
 
   /** Opens an audit's answer, and asks for its page where only its line is there. */
   private open(audit: Audit, then: () => void): void {
-    const openNow = (done: Audit): void => {
-      this.reveal(done);
-      if (this.shown === done) then();
+    const openNow = (done: Audit): boolean => {
+      const isDrawn = this.reveal(done);
+      if (this.shown === done || this.short === done) then();
+      return isDrawn;
     };
-    if (audit.page || audit.refused || audit.problem) return openNow(audit);
+    if (audit.page || audit.refused || audit.problem || audit.short) {
+      openNow(audit);
+      return;
+    }
     this.inTurn(async () => {
       if (this.audits.includes(audit)) await this.do(audit, "page", openNow);
     });
   }
 
-  private reveal(audit: Audit): void {
-    if (!audit.page && !audit.refused && !audit.problem) return;
+  /** Shows the answer of an audit, if there is one. */
+  private reveal(audit: Audit): boolean {
+    if (isShortAudit(audit)) {
+      this.short = audit;
+      this.election.turnTo(audit.task);
+      this.draw();
+      this.lead();
+      return true;
+    }
+    if (!audit.page && !audit.refused && !audit.problem) return false;
     this.shown = audit;
     this.draw();
     showAnswer(this.words, audit);
+    return true;
   }
 
-  /** Saves what a command writes on the files of the answer that is shown. */
-  saveBy(command: Command, ending: string): void {
-    const audit = this.shown;
-    if (!audit) return;
-    this.inTurn(async () => {
-      const name = savedName(audit, ending), told = await this.order(audit.task, command, name);
-      const isTold = told?.tells === "answer" || told?.tells === "refused";
-      const isOther = isTold && `${told.sums}` !== `${audit.sums}`;
-      const problem = told?.tells === "nothing" ? problemSentence(this.words, told) : "";
-      element("saved").textContent = isOther ? this.words.changed : problem;
-      if (told?.tells === "answer" && !isOther) saveAs(name, told.bytes, "text/csv");
-      if (isOther && this.audits.includes(audit)) this.again(audit);
-    });
+  /** Asks for the page about the groups of an election. */
+  askGroups({ task }: ShortAudit, take: (told: Told) => void): void {
+    this.inTurn(async () => take(await this.order(task, "groupsPage", task.election!.file.name)), () => take(undefined));
   }
 
   speakIn(code: string): void {
@@ -466,7 +533,7 @@ export class Page {
     if (this.audits.some(audit => audit.state === "running")) this.runner?.stop();
     this.audits = this.audits.map(audit => {
       if (audit.state === "running") return newAudit(audit.task);
-      return audit.page ? { ...audit, page: undefined, sentence: undefined } : audit;
+      return audit.page ? { ...audit, page: undefined } : audit;
     });
     this.shown = null;
     this.draw();
@@ -503,13 +570,15 @@ export class Page {
     const { words, pieces, audits } = this, notes = notesOf(this), shown = listed(audits);
     const isAsking = audits.some(({ task }) => task.asks === "election");
     refill(element("file-list"), this.pieceItems.of(pieces, [words, this.checksums]));
-    refill(element("audit-list"), this.auditItems.of(shown, [words, pieces, this.shown, isAsking, isAlone(this)]));
+    const beside = [words, pieces, this.shown, this.short, isAsking, isAlone(this), this.election.known];
+    refill(element("audit-list"), this.auditItems.of(shown, beside));
     drawTools(this, shown.length);
     element("notes").replaceChildren(...notes);
     document.body.classList.toggle("has-audits", audits.length > 0);
     element("files-head").textContent = `${words.files} (${grouped(pieces.length)})`;
     element("files").hidden = pieces.length === 0;
-    element("options").hidden = !pieces.some(({ kind }) => kind === "prices" || kind === "election");
+    element("options").hidden = !this.election.isOpen
+      && !pieces.some(({ kind }) => kind === "prices" || kind === "refutation");
     element("example").hidden = pieces.some(piece => !piece.isExample);
     element("is-example").hidden = !pieces.some(piece => piece.isExample);
     element("audits").hidden = audits.length === 0 && notes.length === 0;
@@ -517,6 +586,9 @@ export class Page {
     element("totals").hidden = audits.length < 2;
     element("totals").textContent = totalsOf(words, audits);
     if (this.runner && this.isLong) this.drawWork();
+    drawShort(this);
+    this.groupsPage.draw();
+    this.compare.draw();
     this.election.draw();
   }
 }
@@ -529,5 +601,7 @@ export function setWords(words: Words, language: string): void {
   for (const each of document.querySelectorAll<HTMLElement>("[data-word]")) {
     each.textContent = texts[each.dataset.word ?? ""];
   }
-  elementOf("frame", HTMLIFrameElement).title = words.answer;
+  for (const each of document.querySelectorAll<HTMLElement>("[data-title]")) {
+    each.title = texts[each.dataset.title ?? ""];
+  }
 }

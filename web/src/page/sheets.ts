@@ -153,7 +153,7 @@ export class SheetsView {
 
   private showMade(made: File): void {
     const { words } = this.page, file = toldName(made.name), word = fill(words.saveFile, { file });
-    const button = makeButton(word, word, () => saveAs(made.name, made, TYPE));
+    const button = makeButton(word, word, () => saveAs(made.name, TYPE, made));
     element("sheets-made").replaceChildren(
       make("p", {}, fill(words.sheetsMade, { file })), make("p", { class: "buttons" }, button));
     element("sheets-made").hidden = false;

@@ -70,11 +70,16 @@ function listenToAnswer(page: Page): void {
     page.stop();
     element("audit-list").focus({ preventScroll: true });
   });
+  element("check-further").addEventListener("click", () => page.short && page.election.lookFurther(page.short.task));
+  element("compare-outcomes").addEventListener("click", () => page.compare.begin());
+  element("stop-comparing").addEventListener("click", () => page.compare.stop());
+  element("completion").addEventListener("change", () => page.compare.begin());
   element("print").addEventListener("click", () => frame().contentWindow?.print());
   element("save").addEventListener("click", () =>
-    page.shown?.page && saveAs(savedName(page.shown, ".html"), page.shown.page, "text/html"));
-  element("margins").addEventListener("click", () => page.saveBy("margins", ".margins.csv"));
-  element("tidy").addEventListener("click", () => page.saveBy("tidy", ".tidy.csv"));
+    page.shown?.page && saveAs(savedName(page.shown, ".html"), "text/html", page.shown.page));
+  element("save-with-files").addEventListener("click", () => page.shown && page.saving.withFiles(page.shown, "page", "saved"));
+  element("margins").addEventListener("click", () => page.saving.by("margins", ".margins.csv"));
+  element("tidy").addEventListener("click", () => page.saving.by("tidy", ".tidy.csv"));
   addEventListener("keydown", printByKeys);
   addEventListener("resize", () => fitFrame(frame()));
 }

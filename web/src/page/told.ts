@@ -1,13 +1,15 @@
 /* What the page says of an audit, in its language: the word on it, the sentence, and what is remarked. */
 
-import { noteOf } from "../auditor/lines.js";
 import { LONGEST_FILE, NO, REFUSED, YES } from "../auditor/statuses.js";
 import { shownLine, toldName } from "../files/names.js";
 import { grouped } from "../words/formats.js";
+import { headlineOf } from "../words/headlines.js";
 import { fill } from "../words/words.js";
-import { fileOf, isRead } from "./audits.js";
+import { fileOf, isBad, isRead } from "./audits.js";
 import { make } from "./elements.js";
-import type { Failed } from "../auditor/lines.js";
+import { headOf, isShortAudit, shortSentence } from "./short.js";
+import type { Note } from "../auditor/elections.js";
+import type { Failed } from "../auditor/says.js";
 import type { Words } from "../words/words.js";
 import type { Audit, Problem } from "./audits.js";
 import type { Page } from "./page.js";
@@ -15,14 +17,15 @@ import type { Page } from "./page.js";
 type Colour = "good" | "bad" | "plain";
 
 /** The word for how an audit stands, and its colour. */
-function badgeWord(words: Words, { state, status, task, problem }: Audit): readonly [Colour, string] {
+function badgeWord(words: Words, audit: Audit): readonly [Colour, string] {
+  const { state, status, task, problem, short } = audit;
   if (state !== "done") {
     const told = { waiting: words.isWaiting, running: words.isRunning, stopped: words.isStopped, incomplete: "–" };
     return ["plain", told[state]];
   }
   if (problem || status === undefined) return ["bad", words.isFailed];
   if (status === REFUSED) return ["bad", words.isRefused];
-  if (!task.certificate) return ["plain", words.isRead];
+  if (!task.certificate) return short ? [isBad(audit) ? "bad" : "good", words.proved] : ["plain", words.isRead];
   // A violation or a refutation that was shown is no good news, and one that wasn't shown is none either.
   const isPrices = task.certificate.kind === "prices";
   return status === YES ? [isPrices ? "good" : "bad", words.yes] : [isPrices ? "bad" : "plain", words.no];
@@ -33,17 +36,15 @@ export function badgeOf(words: Words, audit: Audit): HTMLElement {
   return make("span", { class: `badge ${colour}` }, word);
 }
 
-/** What the program prints of an election, in the page's language. */
-function readLine({ words }: Page, { line, said }: Audit): string {
-  if (said?.says !== "read") return shownLine(line ?? "");
-  const funded = said.funded === undefined ? words.noneSaid : grouped(said.funded);
-  return fill(words.readLine, { voters: grouped(said.voters), projects: grouped(said.projects), funded });
+/** What an election has. */
+function readLine({ words }: Page, { read, short }: Audit): string {
+  if (!read) return "";
+  const count = short?.cost.funded ?? read.funded, funded = count === undefined ? words.noneSaid : grouped(count);
+  return fill(words.readLine, { voters: grouped(read.voters), projects: grouped(read.projects), funded });
 }
 
-/** What the program remarks on an election, in the page's language. */
-export function noteLine({ words }: Page, line: string): string {
-  const note = noteOf(line);
-  if (!note) return shownLine(line);
+/** What is remarked on an election. */
+export function noteLine({ words }: Page, note: Note): string {
   if (note.says === "oddSelected") return fill(words.oddSelected, { count: grouped(note.projects) });
   if (note.says === "unusedColumn") return fill(words.unusedColumn, { column: note.column });
   const counts = { said: grouped(note.said), counted: grouped(note.counted) };
@@ -66,12 +67,13 @@ function failureIn(words: Words, { condition, voter, project }: Failed): string 
 }
 
 /** Of what an answer is a yes or a no. */
-export function ofWhat(words: Words, { state, status, task, problem }: Audit): string {
-  const kind = task.certificate?.kind;
+export function ofWhat(words: Words, audit: Audit): string {
+  const { state, status, task, problem } = audit, kind = task.certificate?.kind;
   if (state !== "done" || problem || (status !== YES && status !== NO)) return "";
   if (kind === "prices") return status === YES ? words.ofPricesYes : words.ofPricesNo;
   if (kind === "violation") return status === YES ? words.ofViolationYes : words.ofViolationNo;
-  return kind === "refutation" ? status === YES ? words.ofRefutationYes : words.ofRefutationNo : "";
+  if (kind === "refutation") return status === YES ? words.ofRefutationYes : words.ofRefutationNo;
+  return isShortAudit(audit) ? headOf(words, audit) : "";
 }
 
 /** What a yes to prices says of groups, and what it leaves open. */
@@ -81,17 +83,15 @@ export function groupsIn(words: Words, { groups }: Audit): string {
   return `${groups === "strict" ? words.groupsBelowReach : words.groupsWithinReach} ${words.notSaidDeserved}`;
 }
 
-/** What a line says of a certificate, in a sentence. */
-function answerIn({ words }: Page, { task, said, refused, sentence }: Audit): string {
+/** What the answer says of a certificate, in a sentence: that alone which its page begins with, where this stands below. */
+function answerIn({ words }: Page, { task, mode, said, refused }: Audit, isBelow: boolean): string {
   const kind = task.certificate?.kind;
-  if (said?.says === "supported") return `${said.form === "stable" ? words.saysStable : words.saysSupported}. `;
-  if (said?.says === "violation") return `${words.saysViolation}. `;
-  if (said?.says === "unpriceable") return `${said.cover ? words.saysRefutedCover : words.saysRefuted}. `;
   if (refused) return `${fill(words.refused, { file: toldName(refused.file) })} `;
-  if (said?.says !== "failed") return sentence ? `${sentence} ` : "";
-  const answer = kind === "prices" ? words.saysNotSupported
-    : kind === "violation" ? words.saysNoViolation : words.saysNotRefuted;
-  return `${fill(words.notMet, { answer, condition: failureIn(words, said) })} `;
+  if (!said || said.says === "refused" || said.says === "read") return "";
+  if (kind !== "prices" && kind !== "violation" && kind !== "refutation") return "";
+  const answer = words[headlineOf(kind, said, mode?.stable ?? false)];
+  if (isBelow) return answer;
+  return said.says === "failed" ? `${fill(words.notMet, { answer, condition: failureIn(words, said) })} ` : `${answer}. `;
 }
 
 /** The sentence beside the badge: the answer's, what the program prints, or what is missing. */
@@ -103,12 +103,16 @@ export function sentenceOf(page: Page, audit: Audit): HTMLElement {
   }
   if (task.asks === "outcome") return make("span", { class: "soft" }, words.asksOutcome);
   if (isRead(audit)) {
-    const wants = page.audits.some(each => each.task.asks === "election") ? "" : ` ${words.noCertificate}`;
-    return make("span", {}, readLine(page, audit), make("span", { class: "soft" }, wants));
+    return make("span", {}, readLine(page, audit), make("span", { class: "soft" }, ` ${words.needsOutcome}`));
   }
-  const printed = line ? [make("code", { lang: "en" }, shownLine(line))] : [], what = ofWhat(words, audit);
+  const isBelow = audit.page !== undefined && page.audits.length < 2, what = ofWhat(words, audit);
+  // The page of the only answer has the line.
+  const printed = line && !isBelow ? [make("code", { lang: "en" }, shownLine(line))] : [];
   const head = what ? [make("strong", { class: "of" }, what), ". "] : [];
-  return make("span", {}, ...head, answerIn(page, audit), ...printed);
+  if (isShortAudit(audit)) {
+    return make("span", {}, ...head, `${shortSentence(page, audit)} `, make("span", { class: "soft" }, readLine(page, audit)));
+  }
+  return make("span", {}, ...head, answerIn(page, audit, isBelow), ...printed);
 }
 
 /** What is read out of an audit. */

@@ -6,15 +6,16 @@ import { pathOf } from "../files/pieces.js";
 import { grouped } from "../words/formats.js";
 import { fill } from "../words/words.js";
 import { optionsIn } from "./asked.js";
-import { inOrder } from "./audits.js";
+import { inOrder, isRead } from "./audits.js";
 import { element, elementOf, input } from "./elements.js";
+import { shortColumns } from "./short.js";
 import { badgeOf, groupsIn, ofWhat, sentenceOf } from "./told.js";
 import type { Audit } from "./audits.js";
 import type { Page } from "./page.js";
 
 /** The answers that somebody may ask for, by their values in the page. */
 const IS_ASKED: Readonly<Record<string, (audit: Audit) => boolean>> = {
-  no: audit => audit.status === NO, yes: audit => audit.status === YES && audit.task.certificate !== null,
+  no: audit => audit.status === NO, yes: audit => audit.status === YES && !isRead(audit),
   refused: audit => audit.status === REFUSED, open: audit => audit.status === undefined,
 };
 
@@ -46,17 +47,21 @@ export function listenToTools(page: Page): void {
 
 /** The list as a table, which has names and lines as they are. */
 export function tableOf(page: Page): string {
-  const head = ["certificate", "election", "outcome", "answer", "of", "asked", "sentence", "groups", "line"];
+  const head = [
+    "certificate", "election", "outcome", "answer", "of", "asked", "sentence", "groups", "line",
+    "by_cost", "group_by_cost", "by_count", "group_by_count",
+  ];
   return csvOf([head, ...listed(page.audits).map(audit => rowOf(page, audit))]);
 }
 
 /** An audit as a row of the table. Of what its answer is, and what was asked, have columns of their own. */
 function rowOf(page: Page, audit: Audit): string[] {
-  const { words } = page, { task, mode, line = "" } = audit, said = sentenceOf(page, audit);
+  const { words } = page, { task, mode, line = "" } = audit, told = sentenceOf(page, audit);
   const names = [task.certificate, task.election, task.outcome].map(piece => piece ? pathOf(piece) : "");
   const answer = badgeOf(words, audit).textContent ?? "", what = ofWhat(words, audit);
-  for (const code of said.querySelectorAll("code")) code.remove();
-  const sentence = (said.textContent ?? "").slice(what ? `${what}. `.length : 0).trim();
-  const asked = mode && what ? optionsIn(words, mode) : "";
-  return [...names, answer, what, asked, sentence, groupsIn(words, audit), line];
+  for (const code of told.querySelectorAll("code")) code.remove();
+  const sentence = (told.textContent ?? "").slice(what ? `${what}. `.length : 0).trim();
+  const asked = mode && what && task.certificate?.kind === "prices" ? optionsIn(words, mode) : "";
+  const said = [answer, what, asked, sentence, groupsIn(words, audit), line];
+  return [...names, ...said, ...shortColumns(page, audit)];
 }

@@ -37,12 +37,14 @@ function pricesTotals(words: Words, prices: readonly Audit[]): string[] {
  */
 export function totalsOf(words: Words, audits: readonly Audit[]): string {
   const done = audits.filter(audit => audit.state === "done" && !audit.problem);
-  const answered = done.filter(({ status, task }) => task.certificate && (status === YES || status === NO));
+  const answered = done.filter(audit => (audit.status === YES || audit.status === NO) && !isRead(audit));
+  const alone = answered.filter(({ task }) => !task.certificate);
   const ofKind = (kind: Kind): Audit[] => answered.filter(({ task }) => task.certificate?.kind === kind);
   const [violations, refutations] = [ofKind("violation"), ofKind("refutation")];
   const refused = done.filter(audit => audit.status === REFUSED).length, read = done.filter(isRead).length;
   const open = audits.length - answered.length - refused - read;
   return [
+    alone.length > 0 ? fill(words.groupsTotals, told(countOf(alone))) : "",
     ...pricesTotals(words, ofKind("prices")),
     violations.length > 0 ? fill(words.violationTotals, told(countOf(violations))) : "",
     refutations.length > 0 ? fill(words.refutationTotals, told(countOf(refutations))) : "",

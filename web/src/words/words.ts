@@ -6,7 +6,8 @@ import type { ENGLISH } from "./en.js";
 export type Slot =
   | "file" | "names" | "count" | "voters" | "projects" | "funded" | "said" | "counted" | "yes" | "no" | "certificate"
   | "election" | "outcome" | "line" | "answer" | "condition" | "project" | "voter" | "all" | "measure" | "option"
-  | "head" | "cost" | "share" | "most" | "options" | "column" | "row" | "text" | "thousands" | "decimals";
+  | "head" | "cost" | "share" | "most" | "options" | "column" | "row" | "text" | "thousands" | "decimals" | "limit"
+  | "need" | "sum" | "part" | "percent" | "least";
 
 declare const slots: unique symbol;
 

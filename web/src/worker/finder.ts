@@ -1,20 +1,25 @@
 /* Looks for certificates, away from the page. It holds one election; searches go on in slices, between which what else
    is asked is answered. Nothing that it tells is proved. */
 
+import { outcomesOf } from "../comparing/outcomes.js";
+import { Electorate } from "../comparing/rule.js";
 import { readElection, Unlike, withOutcome } from "../elections/election.js";
 import { refutationText, violationText } from "../finding/certificates.js";
 import { cohortsOf } from "../finding/cohorts.js";
-import { claimantsOf, figuresOf, MEASURES, refutationOf, roomOf, unpaidRefutation } from "../finding/groups.js";
-import { findPrices } from "../finding/prices.js";
+import { Decisions } from "../finding/deciding.js";
+import { claimantsOf, figuresOf, MEASURES, refutationOf, roomOf } from "../finding/groups.js";
 import { Search } from "../finding/search.js";
+import { seek } from "../finding/seeking.js";
+import { problemOf } from "../finding/shares.js";
 import { townOf } from "../finding/town.js";
 import { sumOf } from "./bytes.js";
+import type { Completion } from "../comparing/shares.js";
 import type { Cohorts } from "../finding/cohorts.js";
-import type { Claim, Measure } from "../finding/groups.js";
+import type { Claim, Measure, Refutation } from "../finding/groups.js";
+import type { Sought } from "../finding/seeking.js";
 import type { Town } from "../finding/town.js";
-import type { Need } from "../finding/water.js";
 import type {
-  FindOrder, FindProgress, FindTold, FoundGroups, Numbered, PricesTold, ReadOrder, SearchedGroups, ShownClaim,
+  FindOrder, FindProgress, FindTold, FoundGroups, Numbered, PricesOrder, PricesTold, ReadOrder, SearchedGroups, ShownClaim,
   ShownFigures, ViolationOrder,
 } from "./finds.js";
 import type { Sums } from "./orders.js";
@@ -47,9 +52,26 @@ function requireSums(order: ReadOrder, sums: Sums): void {
 const shownClaim = ({ voters, share, most, isViolation }: Claim): ShownClaim =>
   ({ members: voters.length, share, most, isViolation });
 
+const refutationFile = (town: Town, { cover, weights }: Refutation): Blob => new Blob([refutationText(town, cover, weights)]);
+
+/** What is told of prices, with the file of what was found. */
+function pricesTold(town: Town, sought: Sought): PricesTold {
+  if (sought.says === "found") {
+    return { tells: "prices", says: "found", cover: sought.cover, file: new Blob([...sought.pieces]) };
+  }
+  if (sought.says === "unpaid") {
+    return { tells: "prices", ...sought, refutation: refutationFile(town, sought.refutation) };
+  }
+  if (sought.says !== "refuted") return { tells: "prices", says: sought.says };
+  const { refutation } = sought, { stable } = refutation;
+  return { tells: "prices", says: "refuted", stable, cover: refutation.cover > 0, refutation: refutationFile(town, refutation) };
+}
+
 class Finder {
   private town: Town | undefined;
   private cohorts: Cohorts | undefined;
+  /** What was decided of prices, from one search to the next. */
+  private decisions: Decisions | undefined;
   private isStopped = false;
   /** The files that were read, with the sums of what was read. */
   private given: ReadOrder | undefined;
@@ -57,14 +79,16 @@ class Finder {
 
   async answer(order: Exclude<FindOrder, { asks: "stop" }>, tell: Tell): Promise<FindTold> {
     if (order.asks === "read") return this.reading = this.read(order);
-    // What else is asked may come before the election is read.
+    // A search may be stopped before it has begun, and what else is asked may come before the election is read.
+    if (order.asks !== "figures" && order.asks !== "violation") this.isStopped = false;
     await this.reading;
     if (order.asks === "figures") return this.figures(order.projects);
     await this.requireSame();
     switch (order.asks) {
       case "violation": return this.violation(order);
       case "groups": return this.groups(tell);
-      case "prices": return this.prices(order.need, tell);
+      case "prices": return this.prices(order, tell);
+      case "outcomes": return this.outcomes(order.completion, tell);
     }
   }
 
@@ -104,7 +128,7 @@ class Finder {
     const refutation = refutationOf(town, { voters, projects });
     return {
       tells: "violation", file: new Blob([violationText(town, measure, { voters, projects })]),
-      ...refutation ? { refutation: new Blob([refutationText(town, refutation.cover, refutation.weights)]) } : {},
+      ...refutation ? { refutation: refutationFile(town, refutation) } : {},
     };
   }
 
@@ -127,21 +151,22 @@ class Finder {
     return new Search(town, measure, cohorts);
   }
 
-  private async prices(need: Need, tell: Tell): Promise<PricesTold> {
+  private async outcomes(completion: Completion, tell: Tell): Promise<FindTold> {
     const { town, cohorts } = this.known();
-    const done = await this.sliced(findPrices(town, cohorts, need), step =>
-      tell({ tells: "progress", of: "prices", ...step }));
-    if (!done) return { tells: "prices", says: "stopped" };
-    if (done.value.says === "found") return { tells: "prices", says: "found", file: new Blob([...done.value.pieces]) };
-    if (done.value.says !== "unpaid") return { tells: "prices", ...done.value };
-    const { cover, weights } = unpaidRefutation(done.value.project);
-    return { tells: "prices", ...done.value, refutation: new Blob([refutationText(town, cover, weights)]) };
+    const done = await this.sliced(outcomesOf(new Electorate(town, cohorts), completion), step =>
+      tell({ tells: "progress", of: "outcomes", ...step }));
+    return done ? { tells: "outcomes", ...done.value } : { tells: "stopped" };
+  }
+
+  private async prices({ seeks, need }: PricesOrder, tell: Tell): Promise<PricesTold> {
+    const { town, cohorts } = this.known(), decisions = this.decisions ??= new Decisions(problemOf(town, cohorts));
+    const done = await this.sliced(seek(decisions, seeks, need), step => tell({ tells: "progress", of: "prices", ...step }));
+    return done ? pricesTold(town, done.value) : { tells: "prices", says: "stopped" };
   }
 
   /** Lets a search go on to its end, and answers what it comes to; undefined where it was stopped. */
   private async sliced<Step, Answer>(search: Generator<Step, Answer>, tell: (step: Step) => void):
       Promise<{ value: Answer } | undefined> {
-    this.isStopped = false;
     for (;;) {
       const ends = performance.now() + SLICE;
       let next = search.next();

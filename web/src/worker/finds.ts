@@ -1,9 +1,12 @@
 /* What the page and the worker that looks for certificates say to each other. */
 
+import type { Outcomes, OutcomesStep } from "../comparing/outcomes.js";
+import type { Completion } from "../comparing/shares.js";
 import type { Summary } from "../elections/election.js";
+import type { Progress } from "../finding/deciding.js";
 import type { Measure } from "../finding/groups.js";
-import type { Progress } from "../finding/prices.js";
-import type { Need } from "../finding/water.js";
+import type { Seeks } from "../finding/seeking.js";
+import type { Need } from "../finding/shares.js";
 import type { Sums } from "./orders.js";
 
 /** Asks to read an election, and the outcome file where that says which projects are funded. It has to be the first. */
@@ -28,14 +31,27 @@ export interface ViolationOrder {
   readonly projects: readonly number[];
 }
 
-export type Search = { readonly asks: "groups" } | { readonly asks: "prices"; readonly need: Need };
+/** Asks for the outcomes of rules, to be compared. */
+export interface OutcomesOrder {
+  readonly asks: "outcomes";
+  readonly completion: Completion;
+}
+
+/** Asks to look for prices, for a refutation, or for a refutation where there are no prices. */
+export interface PricesOrder {
+  readonly asks: "prices";
+  readonly seeks: Seeks;
+  readonly need: Need;
+}
+
+export type Search = { readonly asks: "groups" } | PricesOrder;
 
 /** Asks to end the search that runs, which tells what it found so far. */
 export interface StopOrder {
   readonly asks: "stop";
 }
 
-export type FindOrder = ReadOrder | FiguresOrder | ViolationOrder | Search | StopOrder;
+export type FindOrder = ReadOrder | FiguresOrder | ViolationOrder | OutcomesOrder | Search | StopOrder;
 
 /** What a group can claim by one measure, as `Claim` without the voters. */
 export interface ShownClaim {
@@ -69,13 +85,16 @@ export interface FoundGroups {
   readonly found: readonly SearchedGroups[];
 }
 
+/** What a search for prices and for a refutation came to: with a refutation, whether it is one of these prices alone. */
 export type PricesTold =
-  | { readonly tells: "prices"; readonly says: "found"; readonly file: Blob }
-  | { readonly tells: "prices"; readonly says: "infeasible" | "none" | "rounding" | "stopped" }
-  | { readonly tells: "prices"; readonly says: "unpaid"; readonly project: number; readonly refutation: Blob };
+  | { readonly tells: "prices"; readonly says: "found"; readonly cover: boolean; readonly file: Blob }
+  | { readonly tells: "prices"; readonly says: "infeasible" | "none" | "stopped" }
+  | { readonly tells: "prices"; readonly says: "unpaid"; readonly project: number; readonly refutation: Blob }
+  | { readonly tells: "prices"; readonly says: "refuted"; readonly refutation: Blob } & Need;
 
 export type FindProgress =
   | { readonly tells: "progress"; readonly of: "groups"; readonly measure: Measure; readonly size: number }
+  | { readonly tells: "progress"; readonly of: "outcomes" } & OutcomesStep
   | { readonly tells: "progress"; readonly of: "prices" } & Progress;
 
 export type FindTold =
@@ -86,6 +105,8 @@ export type FindTold =
   | ShownFigures
   | { readonly tells: "violation"; readonly file: Blob; readonly refutation?: Blob }
   | FoundGroups
+  | { readonly tells: "outcomes" } & Outcomes
+  | { readonly tells: "stopped" }
   | PricesTold
   | FindProgress
   | {

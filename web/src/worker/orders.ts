@@ -1,9 +1,12 @@
 /* What the page and its worker say to each other. */
 
-import type { Facts, Fault, OnGroups } from "../auditor/facts.js";
-import type { Kind } from "../auditor/kinds.js";
-import type { Mode } from "../auditor/statuses.js";
 import type { Command } from "../auditor/commands.js";
+import type { Note, ReadElection } from "../auditor/elections.js";
+import type { FirstAnswers } from "../auditor/groups.js";
+import type { Kind } from "../auditor/kinds.js";
+import type { OnGroups, RefusalObject } from "../auditor/objects.js";
+import type { Line } from "../auditor/says.js";
+import type { Mode } from "../auditor/statuses.js";
 
 /** The files of an audit: themselves, or the numbers under which a worker has them. */
 export interface Files<Named = File> {
@@ -25,8 +28,10 @@ export interface Order<Named = File> {
   readonly ahead?: Files<Named>;
   readonly mode: Mode;
   readonly language: string;
-  /** Whether what the program remarks on the election is told after the answer, and what a yes says of groups. */
-  readonly notes?: boolean;
+  /** Whether the answer is told as soon as it is there, and the rest after it. */
+  readonly isEarly?: boolean;
+  /** The names by which a page calls the files, where it is to hold them, so that they can be saved from it. */
+  readonly savedAs?: Files<string>;
   /** How often it is done; only the last time is told. */
   readonly rounds?: number;
 }
@@ -54,16 +59,43 @@ export interface Sent {
 /** Sums of the bytes that were read, by which a file is known that was changed since. */
 export type Sums = readonly string[];
 
-/** An answer. `kind` is what the auditor takes the certificate for, `groups` what a yes to prices says of groups. */
-export interface Answer {
+/**
+ * What an answer says: the line that the program prints first, the same as facts, what is remarked on the election, and
+ * what a yes to prices says of groups.
+ */
+export interface Says {
+  readonly line: string;
+  readonly said?: Line;
+  readonly notes: readonly Note[];
+  readonly groups: OnGroups | null;
+}
+
+/** A file that a page holds: its name, its SHA-256, and a link that has its bytes. */
+export interface Held {
+  readonly name: string;
+  readonly sum: string;
+  readonly link: string;
+}
+
+/**
+ * An answer. `kind` is what the auditor takes the certificate for, `text` a page or a table, `read` what an election has
+ * that was asked about without a certificate, and `short` whether a group falls short there. Where it is told early, what
+ * comes after it is missing.
+ */
+export interface Answer extends Partial<Says> {
   readonly tells: "answer";
   readonly status: number;
-  readonly bytes: Uint8Array;
-  readonly facts: Facts;
   readonly kind: Kind;
-  readonly sums: Sums;
-  readonly notes?: readonly string[];
-  readonly groups?: OnGroups | null;
+  readonly sums?: Sums;
+  readonly text?: Uint8Array;
+  readonly read?: ReadElection;
+  readonly short?: FirstAnswers;
+  readonly held?: Files<Held>;
+}
+
+/** What comes after an answer that was told early. */
+export interface Rest extends Partial<Omit<Answer, "tells">> {
+  readonly tells: "rest";
 }
 
 /** Why there is no answer. */
@@ -79,7 +111,7 @@ export interface Nothing {
  */
 export interface Refused {
   readonly tells: "refused";
-  readonly fault: Fault;
+  readonly fault: RefusalObject;
   readonly text: string;
   readonly file: string;
   readonly line: number;
@@ -98,7 +130,7 @@ export type Step =
 /** What ends an order. */
 export type Ending =
   | Answer
-  | { readonly tells: "notes"; readonly notes: readonly string[]; readonly groups: OnGroups | null }
+  | Rest
   | Refused
   | { readonly tells: "kinds"; readonly kinds: readonly Kind[] }
   | { readonly tells: "sums"; readonly sums: readonly string[] }
@@ -111,5 +143,5 @@ export interface Done {
   readonly taken: number;
 }
 
-/** What a worker tells: how far it is, an answer after which notes come, and that it is done. */
-export type Told = Step | Answer | Done;
+/** What a worker says: how far it is, an answer after which the rest comes, and that it is done. */
+export type Message = Step | Answer | Done;

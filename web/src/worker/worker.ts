@@ -2,20 +2,15 @@
    went. */
 
 import { Auditor } from "../auditor/auditor.js";
-import { COMMANDS } from "../auditor/commands.js";
-import { FRONT, Teller } from "../auditor/kinds.js";
-import { linesOf } from "../auditor/lines.js";
-import { hintOn, refusedRole } from "../auditor/refusals.js";
-import { NO, NO_MEMORY, OutOfMemory, YES } from "../auditor/statuses.js";
+import { FRONT, GLANCE, Teller } from "../auditor/kinds.js";
+import { isOutOfMemory } from "../auditor/statuses.js";
 import { Sha256 } from "../files/sha256.js";
-import { excerptOf, sumOf } from "./bytes.js";
+import { Audit } from "./audit.js";
+import { heldOf } from "./held.js";
 import { Ahead, load, PIECE, piecesOf, Unreadable } from "./reading.js";
-import type { Command, Place, Question, Row } from "../auditor/commands.js";
-import type { Fault } from "../auditor/facts.js";
+import type { Place, Question } from "../auditor/commands.js";
 import type { Kind } from "../auditor/kinds.js";
-import type {
-  Asked, Beginning, Ending, Files, KindsOrder, Order, Refused, Sent, SumsOrder, Told,
-} from "./orders.js";
+import type { Asked, Beginning, Ending, Files, KindsOrder, Message, Order, Sent, SumsOrder } from "./orders.js";
 
 /** Of so many files the fronts are read together. */
 const AT_ONCE = 64;
@@ -24,7 +19,7 @@ const AT_ONCE = 64;
 const sent: File[] = [];
 const ahead = new Ahead();
 
-const tell = (told: Told): void => postMessage(told);
+const tell = (message: Message): void => postMessage(message);
 
 /** How many bytes are read. Of more than a piece it is told how far it is. */
 const sizeOf = ({ election, outcome, certificate }: Files): number =>
@@ -44,70 +39,47 @@ async function questionOf(auditor: Auditor, order: Order): Promise<Question> {
   };
   const read = (file: File | null): Promise<Place | undefined> | undefined =>
     file ? load(auditor, file, ahead, tellRead) : undefined;
-  const textOf = (file: File | null): Place => auditor.putText(file?.name ?? "");
+  const { savedAs } = order;
+  const nameOf = (role: keyof Files): Place => auditor.putText(savedAs?.[role] ?? order.files[role]?.name ?? "");
   // Together they are read sooner than one after the other.
   const [first, second, third] = await Promise.all([read(election), read(outcome), read(certificate)]);
   return {
     files: { election: first, outcome: second, certificate: third },
-    names: { election: textOf(election), outcome: textOf(outcome), certificate: textOf(certificate) },
+    names: { election: nameOf("election"), outcome: nameOf("outcome"), certificate: nameOf("certificate") },
     mode: order.mode,
+    measure: "cost",
     language: auditor.putText(order.language),
   };
 }
 
-/** What is told of a refusal: its fault and its line, the file that it speaks of, and the hint. */
-function refusalBy(auditor: Auditor, order: Order, asked: Question, fault: Fault, text: string):
-    Omit<Refused, "tells" | "kind" | "sums"> {
-  const role = refusedRole(fault.input) as keyof Files, place = asked.files[role] ?? asked.files.election!;
-  const { line, sentences } = hintOn(auditor, order.command, asked, fault);
-  const excerpt = line > 0 ? excerptOf(auditor.bytes(place), line) : "";
-  return { fault, text: text.trim(), file: order.files[role]?.name ?? "", line, sentences, excerpt };
-}
-
-/** What a certificate is. A command that takes one kind alone, and answers, has told it. */
-function kindBy(auditor: Auditor, command: Command, status: number, certificate: Place): Kind {
-  const row: Row = COMMANDS[command], wanted = row.certificate;
-  const isTold = status === YES || status === NO;
-  if (isTold && (wanted === "prices" || wanted === "violation" || wanted === "refutation")) return wanted;
-  return new Teller(auditor).kindOf(certificate);
-}
-
-/** What the program remarks on an election. */
-function notesBy(auditor: Auditor, asked: Question): string[] {
-  const { status, bytes } = auditor.ask("read", asked);
-  return status === YES ? linesOf(new TextDecoder().decode(bytes)).slice(1) : [];
-}
-
 async function audit(auditor: Auditor, order: Order): Promise<Ending> {
-  const asked = await questionOf(auditor, order), { election, outcome, certificate } = asked.files;
+  const asked = await questionOf(auditor, order);
   ahead.read(listOf(order.ahead));
   if (sizeOf(order.files) > PIECE) tell({ tells: "checking" });
-  const sums = [election, outcome, certificate].map(place => place ? sumOf(auditor.bytes(place)) : "");
-  const { status, bytes, facts } = auditor.ask(order.command, asked);
-  if (status === NO_MEMORY) return { tells: "nothing", why: "memory" };
-  const kind = certificate ? kindBy(auditor, order.command, status, certificate) : "unknown";
-  if (facts.fault) {
-    const text = new TextDecoder().decode(bytes);
-    return { tells: "refused", kind, sums, ...refusalBy(auditor, order, asked, facts.fault, text) };
-  }
-  const answer: Ending = { tells: "answer", status, bytes, facts, kind, sums };
-  if (!order.notes) return answer;
-  tell(answer);
-  return { tells: "notes", notes: notesBy(auditor, asked), groups: facts.saysOfGroups ?? null };
+  const ending = new Audit(auditor, order, asked, tell).ending();
+  if (!order.savedAs || ending.tells !== "answer") return ending;
+  return { ...ending, held: await heldOf(auditor, asked, order.savedAs) };
 }
 
-/** What each file is. One that can't be read is of no kind, and so is one that is too long to be any. */
+/** The first bytes of a file, or none of one that can't be read. A slice takes a browser longer than a small file whole. */
+async function frontOf(file: File, most: number): Promise<Uint8Array> {
+  const part = file.size > Math.max(most, FRONT) ? file.slice(0, most) : file;
+  return new Uint8Array(await part.arrayBuffer().catch(() => new ArrayBuffer(0))).subarray(0, most);
+}
+
+/** What each file is, mostly by its first bytes alone. One that can't be read is of no kind, and so is one that is too long. */
 async function kindsOf(auditor: Auditor, { list }: KindsOrder): Promise<Ending> {
   const teller = new Teller(auditor), place = auditor.room(FRONT);
   const kinds: Kind[] = [];
-  // A slice takes a browser longer than a whole file, where that is small.
-  const frontOf = (file: File): Promise<ArrayBuffer> =>
-    (file.size > FRONT ? file.slice(0, FRONT) : file).arrayBuffer().catch(() => new ArrayBuffer(0));
+  const kindOf = (bytes: Uint8Array): Kind => {
+    auditor.bytes(place).set(bytes);
+    return teller.kindOf({ at: place.at, length: BigInt(bytes.length) });
+  };
   for (let at = 0; at < list.length; at += AT_ONCE) {
-    for (const front of await Promise.all(list.slice(at, at + AT_ONCE).map(frontOf))) {
-      const bytes = new Uint8Array(front).subarray(0, FRONT);
-      auditor.bytes(place).set(bytes);
-      kinds.push(teller.kindOf({ at: place.at, length: BigInt(bytes.length) }));
+    const files = list.slice(at, at + AT_ONCE), fronts = await Promise.all(files.map(file => frontOf(file, GLANCE)));
+    for (const [number, front] of fronts.entries()) {
+      const kind = kindOf(front), isMore = kind === "unknown" && files[number].size > GLANCE;
+      kinds.push(isMore ? kindOf(await frontOf(files[number], FRONT)) : kind);
     }
   }
   return { tells: "kinds", kinds };
@@ -128,8 +100,7 @@ async function sumsOf({ list }: SumsOrder): Promise<Ending> {
 /** Why there is no answer. */
 function nothingBy(error: unknown): Ending {
   if (error instanceof Unreadable) return { tells: "nothing", why: "unreadable", file: error.message };
-  const isBrowsers = error instanceof RangeError && /memory|allocat/i.test(error.message);
-  return { tells: "nothing", why: isBrowsers || error instanceof OutOfMemory ? "memory" : "trap" };
+  return { tells: "nothing", why: isOutOfMemory(error) ? "memory" : "trap" };
 }
 
 let module_: WebAssembly.Module, kept: Auditor | undefined;

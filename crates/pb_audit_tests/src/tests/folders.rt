@@ -19,13 +19,18 @@ fn entries(alloc: Global) -> Result<Vec<Entry>, AllocError> {
         prices: Some(file(alloc, PRICES)?),
         violation: Some(file(alloc, FAIR_VIOLATION)?),
     };
-    let two = Entry {
+    let two = unread(alloc)?;
+    Ok(vec![in alloc; one, two]?)
+}
+
+/// An election that can't be read, with prices.
+fn unread(alloc: Global) -> Result<Entry, AllocError> {
+    Ok(Entry {
         name: String::from_str(alloc, "two")?,
         election: Loaded::Unread,
         prices: Some(file(alloc, PRICES)?),
         violation: None,
-    };
-    Ok(vec![in alloc; one, two]?)
+    })
 }
 
 const REPORT: &str = "\
@@ -43,7 +48,7 @@ fn entries_are_reported_at_once_or_one_by_one(rt: HostRuntime) -> Result<(), Fai
     let report = folder_text(alloc, &entries, Mode::PLAIN)?;
     assert!(rt; report.text.as_slice() == REPORT.as_bytes());
     assert!(rt; report.status == FolderStatus::SomeRefused);
-    let mut one_by_one = FolderReport::new(alloc, Mode::PLAIN);
+    let mut one_by_one = FolderReport::new(alloc, false, Mode::PLAIN);
     for entry in &entries {
         one_by_one = one_by_one.add(alloc, entry)?;
     }
@@ -52,5 +57,19 @@ fn entries_are_reported_at_once_or_one_by_one(rt: HostRuntime) -> Result<(), Fai
     let status = report.write(&mut Output::new(&mut written))?;
     assert!(rt; status == FolderStatus::SomeRefused);
     assert!(rt; written.as_slice() == REPORT.as_bytes());
+    Ok(())
+}
+
+#[test]
+fn entries_are_reported_as_objects(rt: HostRuntime) -> Result<(), Fail> {
+    let alloc = rt.alloc();
+    let report = FolderReport::new(alloc, true, Mode::PLAIN);
+    let report = report.add(alloc, &unread(alloc)?)?.finish()?;
+    let want = "{\"election\":{\"answer\":\"refused\",\"input\":\"election\",\"kind\":\"refusal\",\
+        \"name\":\"Read\",\"number\":18,\"record\":0,\"version\":1},\"kind\":\"entry\",\"name\":\"two\",\
+        \"prices\":null,\"version\":1,\"violation\":null}\n\
+        {\"elections\":1,\"kind\":\"total\",\"no\":0,\"refused\":1,\"version\":1,\"yes\":0}\n";
+    assert!(rt; report.text.as_slice() == want.as_bytes());
+    assert!(rt; report.status == FolderStatus::SomeRefused);
     Ok(())
 }

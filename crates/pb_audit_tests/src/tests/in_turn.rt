@@ -1,6 +1,6 @@
 //! Each command once whole, and each of its reads and writes made to fail one after the other.
 use super::commands::{COMMANDS, Command};
-use pb_audit::{Fault, InputFault, InputName, InputRefusal, Status};
+use pb_audit::{Fault, Format, InputFault, InputName, InputRefusal, Status};
 use pb_election::Output;
 use pb_samples::fakes::{InterruptedReader, Lapse, LapsingWriter};
 use std::alloc::Global;
@@ -64,12 +64,27 @@ fn each_command_answers(rt: HostRuntime) -> Result<(), Fail> {
 #[test]
 fn each_answer_in_memory_is_what_is_written(rt: HostRuntime) -> Result<(), Fail> {
     for command in COMMANDS {
-        if let Some(answer) = command.answer_in_memory(rt.alloc())? {
+        if let Some(answer) = command.answer_in_memory(rt.alloc(), Format::Lines)? {
             assert!(rt;
                 answer.text.as_slice() == command.answer().as_bytes(),
                 "{command:?}"
             );
             assert_eq!(rt; answer.status, command.status());
+        }
+    }
+    Ok(())
+}
+
+#[test]
+fn each_object_ends_as_the_lines_do(rt: HostRuntime) -> Result<(), Fail> {
+    for command in COMMANDS {
+        if let Some(answer) = command.answer_in_memory(rt.alloc(), Format::Json)? {
+            assert_eq!(rt; answer.status, command.status());
+            let object = command.object();
+            assert!(rt;
+                answer.text.as_slice().starts_with(object.as_bytes()),
+                "{command:?}"
+            );
         }
     }
     Ok(())

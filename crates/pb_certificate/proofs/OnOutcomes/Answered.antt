@@ -1,66 +1,32 @@
 -- Records without a fault are the text of an outcome.
-use Rattle.std.proofs.Common.{◌≡◌, Bool, true, false, List, [], ◌∷◌, ◌++◌, refl, inl, inr, Some, None}
-use Rattle.std.specs.Prelude.{◌⊎◌, Result, Ok, Err, codes}
-use Rattle.pb_records.proofs.FirstOrNone.{HasFirst, Kept, first-or-none, kept-to-end}
+use Rattle.std.proofs.Common.{◌≡◌, Bool, List, ap, subst, sym, inl, inr}
+use Rattle.std.specs.Prelude.{◌⊎◌}
 use Rattle.pb_election.specs.Instance.{Instance}
 use Rattle.pb_records.specs.Records.{Rec}
-use Rattle.pb_records.specs.Cells.{is_text, nonblank}
+use Rattle.pb_records.specs.Cells.{nonblank}
 use Rattle.pb_records.specs.FirstFault.{NoFault}
-use Rattle.pb_certificate.specs.Fields.{fields, same_fields}
+use Rattle.pb_records.specs.Inside.Headed.{HasTaken}
+use Rattle.pb_records.proofs.FirstOrNone.{HasFirst}
+use Rattle.pb_records.proofs.Headed.{all-kept, states-or-first}
 use Rattle.pb_certificate.specs.Faults.{outcome_form}
 use Rattle.pb_certificate.specs.Inside.Marks.{project_marks}
-use Rattle.pb_certificate.specs.Inside.Outcomes.{OutcomeTaken, after_outcome_row}
+use Rattle.pb_certificate.specs.Outcomes.Kind.{outcome_kind}
 use Rattle.pb_certificate.specs.Outcomes.Text.{IsOutcomeText}
-use Rattle.pb_certificate.specs.declared.refusal.CertFault.{CertFault}
-use Rattle.pb_certificate.proofs.OnOutcomes.Steps.{head-refused, head-taken, row-refused, row-taken, whole-outcome}
-use Rattle.pb_certificate.proofs.NoFaults.{clear-text}
-
--- some rows, or no record at all, were taken
-abbrev Taken : Instance → List Rec → Type 0
-Taken e before = (begun : Bool) × (marks : List Bool) × OutcomeTaken e begun marks before
-
-is-text : (e : Instance) (before : List Rec) (r : Rec) → outcome_form e before (Some r) ≡ None → is_text r ≡ true
-is-text e before r none = clear-text (outcome_form e) before r (λ is. rw is refl) none
-
-after-nothing : (e : Instance) (before : List Rec) (r : Rec) (marks : List Bool) → OutcomeTaken e false marks before
-    → outcome_form e before (Some r) ≡ None → Taken e (before ++ (r ∷ []))
-after-nothing e before r marks h none = by (same_fields (fields r) (codes "pb-outcome" ∷ codes "1" ∷ [])) refl
-  where
-    text : is_text r ≡ true
-    text = is-text e before r none
-
-    by : (b : Bool) → same_fields (fields r) (codes "pb-outcome" ∷ codes "1" ∷ []) ≡ b → Taken e (before ++ (r ∷ []))
-    by true is = (true, marks, (head-taken e false marks r text refl is before h).1)
-    by false is = let refused = head-refused e false marks r text refl is before h in cc (none, refused)
-
-after-rows : (e : Instance) (before : List Rec) (r : Rec) (marks : List Bool) → OutcomeTaken e true marks before
-    → outcome_form e before (Some r) ≡ None → Taken e (before ++ (r ∷ []))
-after-rows e before r marks h none = by (after_outcome_row e marks r) refl
-  where
-    text : is_text r ≡ true
-    text = is-text e before r none
-
-    by : (after : Result (List Bool) CertFault) → after_outcome_row e marks r ≡ after → Taken e (before ++ (r ∷ []))
-    by (Ok new) is = (true, new, (row-taken e true true marks new r text refl refl is before h).1)
-    by (Err f) is = let refused = row-refused e true marks r f text refl is before h in cc (none, refused)
-
-one-more : (e : Instance) (before : List Rec) (r : Rec) (begun : Bool) (marks : List Bool)
-    → OutcomeTaken e begun marks before → outcome_form e before (Some r) ≡ None → Taken e (before ++ (r ∷ []))
-one-more e before r false marks h none = after-nothing e before r marks h none
-one-more e before r true marks h none = after-rows e before r marks h none
-
-kept : (e : Instance) → Kept (outcome_form e) (Taken e)
-kept e = record {
-  start = (false, project_marks e [], (tt, (refl, refl)));
-  more = λ before r h none. one-more e before r h.0 h.1 h.2 none;
-}
-
-whole : (e : Instance) (recs : List Rec) → NoFault (outcome_form e) recs → (w : List Bool) × IsOutcomeText recs e w
-whole e recs none =
-    let taken : Taken e (nonblank recs) = kept-to-end (outcome_form e) (Taken e) recs (kept e) none in
-    (taken.1, whole-outcome e taken.0 taken.1 recs taken.2 none)
+use Rattle.pb_certificate.proofs.OnOutcomes.Texts.{states-text}
 
 pub outcome-answered : (recs : List Rec) (e : Instance)
     → ((w : List Bool) × IsOutcomeText recs e w) ⊎ HasFirst (outcome_form e) recs
+unfolding outcome_form
 outcome-answered recs e =
-    elim (first-or-none (outcome_form e) recs) [ inl none ↦ inl (whole e recs none) | inr first ↦ inr first ]
+    elim (states-or-first (outcome_kind e) recs)
+    [ inl s ↦ inl (project_marks e s.so_far.rows, states-text recs e s) | inr first ↦ inr first ]
+
+-- what a draft has that took all records states them
+pub whole-outcome : (e : Instance) (begun : Bool) (marks : List Bool) (recs : List Rec)
+    → HasTaken (outcome_kind e) (project_marks e) (begun, marks) (nonblank recs) → NoFault (outcome_form e) recs
+    → IsOutcomeText recs e marks
+unfolding outcome_form
+whole-outcome e begun marks recs taken none =
+    let all = all-kept (outcome_kind e) (project_marks e) (begun, marks) recs taken none in
+    let same : marks ≡ project_marks e all.0.so_far.rows = ap (λ (x : Bool × List Bool). x.1) all.1 in
+    subst (IsOutcomeText recs e) (sym same) (states-text recs e all.0)

@@ -1,5 +1,5 @@
 -- The prices of a certificate, gathered row by row.
-use Rattle.std.proofs.Common.{◌≡◌, ◌∙◌, ◌≤◌, ◌<◌, ◌-◌, ℕ, false, List, [], ◌∷◌, ◌++◌, length, sym, ap, subst, arith, inl, inr, None}
+use Rattle.std.proofs.Common.{◌≡◌, ◌∙◌, ◌≤◌, ◌<◌, ◌-◌, ℕ, false, List, [], ◌∷◌, ◌++◌, length, sym, ap, subst, arith, inl, inr}
 use Rattle.std.specs.Prelude.{◌⊎◌}
 use Rattle.std.specs.List.{list_any}
 use Rattle.pb_election.specs.Instance.{Instance, projects, voters}
@@ -7,7 +7,7 @@ use Rattle.pb_records.specs.Records.{Rec}
 use Rattle.pb_records.specs.FirstFault.{IsFirstFault}
 use Rattle.pb_certificate.specs.Faults.{no_memory, price_form}
 use Rattle.pb_certificate.specs.Inside.Prices.Gathering.{GathersAll, Holds, HoldsAll}
-use Rattle.pb_certificate.specs.Prices.RowFaults.{as_payment, last_voter, payment_fault}
+use Rattle.pb_certificate.specs.Prices.RowFaults.{as_payment, last_voter}
 use Rattle.pb_certificate.specs.Prices.Text.{IsPriceText, Payment, same_pair}
 use Rattle.pb_certificate.specs.Prices.{Prices}
 use Rattle.pb_certificate.specs.Prices.Rows.{GivesNone, GivesRow, Rows, given, prices_given}
@@ -15,16 +15,7 @@ use Rattle.pb_certificate.specs.declared.prices.gathering.Turn.{Turn}
 use Rattle.pb_certificate.specs.declared.prices.row.PriceRow.{PriceRow}
 use Rattle.pb_certificate.specs.declared.refusal.CertRefusal.{CertRefusal}
 use Rattle.pb_certificate.proofs.OnPrices.Clear.{price-clear}
-use Rattle.pb_certificate.proofs.OnPrices.RowSteps.{last_voter-push}
-
--- a payment that may follow others
-pub record MayFollow (qs : List Payment) (q : Payment) : Type 0 where
-  pub not_lower : last_voter qs ≤ q.voter
-  pub fresh : list_any (same_pair q) qs ≡ false
-  pub few : length qs < 10000000
-
-pub may-follow : (qs : List Payment) (q : Payment) → payment_fault qs q ≡ None → MayFollow qs q
-may-follow qs q h = grind arith
+use Rattle.pb_certificate.proofs.OnPrices.RowSteps.{last_voter-push, may-follow}
 
 -- the place in the file does not matter
 any-place : (has : Instance → Prices → Type 0) (s : Rows) (n : ℕ) (qs : List Payment) (t : Turn)

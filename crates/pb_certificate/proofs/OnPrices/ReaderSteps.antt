@@ -1,22 +1,26 @@
 -- One more row of a price certificate.
-use Rattle.std.proofs.Common.{◌≡◌, ◌∙◌, ◌≤◌, ℕ, Bool, true, false, List, [], ◌∷◌, ◌++◌, length, refl, sym, ap, subst, inl, inr, arith, Some, None, append_assoc, drop}
+use Rattle.std.proofs.Common.{◌≡◌, ◌∙◌, ◌≤◌, ◌^◌, ℕ, Bool, true, false, List, [], ◌∷◌, ◌++◌, length, refl, sym, ap, subst, inl, inr, arith, Some, None, drop}
 use Rattle.std.specs.Prelude.{◌⊎◌, MatchResult, Option, Result, Ok, Err, filter_map, map}
-use Rattle.std.specs.List.{AllByRecursion}
-use Rattle.std.specs.List.Sorted.{IsNonDecreasing}
+use Rattle.std.specs.Result.{result_err}
 use Rattle.std.proofs.lemmas.Bool.{false≢true}
-use Rattle.pb_election.specs.Instance.{Instance, all_voters}
+use Rattle.pb_election.specs.Instance.{Instance}
+use Rattle.pb_records.specs.Headed.{after}
 use Rattle.pb_records.specs.Records.{Rec}
 use Rattle.pb_records.specs.Cells.{is_text, nonblank}
+use Rattle.pb_records.specs.Inside.Headed.{Taken}
 use Rattle.pb_records.specs.Inside.Position.{MeetsEnd, MeetsRecord, MeetsTriple, Position}
 use Rattle.pb_records.specs.Inside.Lines.{IsTriple}
 use Rattle.pb_records.specs.declared.lines.Triple.{Triple}
 use Rattle.pb_records.proofs.BlankText.{not-text-is-full}
+use Rattle.pb_records.proofs.Headed.{form-here, nothing-taken, taken-more}
 use Rattle.pb_certificate.specs.Faults.{certificate_records, no_memory, price_form}
 use Rattle.pb_certificate.specs.Inside.Prices.Places.{Comes, StandsBehind}
-use Rattle.pb_certificate.specs.Inside.Prices.Head.{ReadsHead}
+use Rattle.pb_certificate.specs.Inside.Prices.Head.{ReadsHead, StandsInHead}
+use Rattle.pb_certificate.specs.Prices.Kind.{price_kind}
+use Rattle.pb_certificate.specs.Prices.Kind.Awaited.{Name, Row}
 use Rattle.pb_certificate.specs.Prices.RowFaults.{as_payment, payment_fault, row_fault}
-use Rattle.pb_certificate.specs.Prices.Text.{Payment, payment_of, payments_stated}
-use Rattle.pb_certificate.specs.Inside.Prices.PriorRows.{RefusesPayment, RiseFrom, TakesPayment, TakesRecord}
+use Rattle.pb_certificate.specs.Prices.Text.{IsPriceText, Payment, payment_of}
+use Rattle.pb_certificate.specs.Inside.Prices.PriorRows.{RefusesPayment, TakesPayment, TakesRecord}
 use Rattle.pb_certificate.specs.Inside.Prices.RowReader.{Advances, IsReading, place_of}
 use Rattle.pb_certificate.specs.Prices.Rows.{IsBetweenRows, IsInHead, RefusesNext, given}
 use Rattle.pb_certificate.specs.declared.prices.row.PriceRow.{PriceRow}
@@ -26,12 +30,8 @@ use Rattle.pb_certificate.specs.declared.refusal.CertFault.{CertFault}
 use Rattle.pb_certificate.specs.declared.refusal.CertRefusal.{CertRefusal}
 use Rattle.pb_certificate.proofs.OnPrices.HeadSteps.{bytes-refused}
 use Rattle.pb_certificate.proofs.OnPrices.PlaceSteps.{at-end, goes-behind, refused-at}
-use Rattle.pb_certificate.proofs.OnPrices.Clear.{cons-rises, nil-rises}
-use Rattle.pb_certificate.proofs.OnPrices.RowPlaces.{form-of-payment, form-of-row, given-behind}
-use Rattle.pb_certificate.proofs.OnPrices.RowSteps.{voters_of}
-use Rattle.pb_certificate.proofs.OnPrices.Texts.{stated-length}
-use Rattle.pb_records.proofs.Lists.{map-push}
-use Rattle.pb_records.proofs.Each.{all-weaker}
+use Rattle.pb_certificate.proofs.OnPrices.Stated.{given-behind, heads-of, prices-by, rows-pay, taken-text}
+use Rattle.pb_certificate.proofs.OnPrices.Texts.{within-some}
 
 -- whether a record comes, where that is known
 pub comes-record : (old from new : Position) (b : Bool) → Comes from new (Ok b) → from ≡ old → b ≡ true
@@ -47,44 +47,60 @@ comes-end old from new true c same is = absurd (false≢true (sym is))
 pub given-is : (r : RowReader) (h : IsReading r) → given (place_of r) ≡ h.payments
 given-is r h =
     ap (λ (recs : List Rec). filter_map (payment_of r.election.now) (drop 4 recs)) h.stands.behind
-    ∙ given-behind r.election.now r.denominator r.budget h.heads h.rows h.payments h.is_head h.each_row
+    ∙ given-behind r.election.now h.before r.denominator r.budget h.payments h.taken
 
 -- a reader stands between rows
 pub between-rows : (r : RowReader) → IsReading r → IsBetweenRows (place_of r)
 between-rows r h =
+    let e = r.election.now in
     record {
-      heads = h.heads;
-      rows = h.rows;
-      behind = h.stands.behind;
-      is_head = h.is_head;
-      each_row = h.each_row ∙ ap (map Some) (sym (given-is r h));
+      heads = h.taken.heads;
+      rows = h.taken.rows;
+      behind = h.stands.behind ∙ h.taken.cut;
+      is_head = heads-of e h.before r.denominator r.budget h.payments h.taken;
+      each_row = rows-pay e h.taken.rows h.payments h.taken.rows_state ∙ ap (map Some) (sym (given-is r h));
       within = h.stands.within;
       clear = h.stands.clear;
     }
+
+-- the bounds of the numbers that the head states
+pub head-bounds : (r : RowReader) → IsReading r
+    → (1 ≤ r.denominator) × (r.denominator ≤ 10 ^ 9) × (r.budget ≤ 10 ^ 21)
+head-bounds r h =
+    let head = heads-of r.election.now h.before r.denominator r.budget h.payments h.taken in
+    let denominator = within-some 1 (10 ^ 9) head.is_denominator.0 r.denominator head.is_denominator.2 in
+    let budget = within-some 0 (10 ^ 21) head.is_budget.0 r.budget head.is_budget.2 in
+    (denominator.0, denominator.1, budget.1)
+
+-- what one more row gives
+after-row : (e : Instance) (d b : ℕ) (qs : List Payment) (r : Rec) (q : Payment) → row_fault e r ≡ None
+    → payment_of e r ≡ Some q → payment_fault qs q ≡ None
+    → after (price_kind e) (record { head = Row d b; rows = qs }) r
+    ≡ Ok (record { head = Row d b; rows = qs ++ (q ∷ []) })
+after-row e d b qs r q none states may = rw (none, states, may) refl
 
 -- a row is given
 row-taken : (old : RowReader) (cursor : Position) (prior : PriorRows) (q : PriceRow) → IsReading old
     → MeetsRecord old.cursor cursor → TakesPayment old.election.now cursor.row old.prior prior q
     → length prior.last_payers.items ≡ length old.prior.last_payers.items
     → Advances old (record old { cursor = cursor; prior = prior }) (Ok (Some q))
+unfolding price_form
 row-taken old cursor prior q h m t many =
     let e = old.election.now in
     let recs = certificate_records old.bytes.now in
     let r = cursor.row in
     let admitted = t.admits h.payments h.remembers in
-    let clear = form-of-payment e old.denominator old.budget h.heads h.rows h.payments r (as_payment q) h.is_head
-    h.each_row m.is_utf8 t.no_fault t.states ∙ admitted.0 in
-    let stands =
-    subst (StandsBehind (price_form e) recs cursor) (append_assoc h.heads h.rows (r ∷ []))
-    (goes-behind (price_form e) recs old.cursor cursor (h.heads ++ h.rows) h.stands m clear) in
+    let more = after-row e old.denominator old.budget h.payments r (as_payment q) t.no_fault t.states admitted.0 in
+    let clear = form-here (price_kind e) h.before (record { head = Row old.denominator old.budget; rows = h.payments })
+    r h.taken m.is_utf8 ∙ ap result_err more in
     let reading : IsReading (record old { cursor = cursor; prior = prior }) =
     record {
-      heads = h.heads;
-      rows = h.rows ++ (r ∷ []);
+      before = h.before ++ (r ∷ []);
       payments = h.payments ++ (as_payment q ∷ []);
-      is_head = h.is_head;
-      each_row = map-push (payment_of e) h.rows r h.payments (as_payment q) h.each_row t.states;
-      stands = stands;
+      taken = taken-more (price_kind e) h.before (record { head = Row old.denominator old.budget; rows = h.payments })
+          (record { head = Row old.denominator old.budget; rows = h.payments ++ (as_payment q ∷ []) }) r h.taken
+          m.is_utf8 more;
+      stands = goes-behind (price_form e) recs old.cursor cursor h.before h.stands m clear;
       remembers = admitted.1;
       each_project = many ∙ h.each_project;
     } in (
@@ -124,11 +140,9 @@ triple-taken old cursor t prior q h m takes many =
     let r = given.1 in (
       given.0,
       record {
-        heads = r.heads;
-        rows = r.rows;
+        before = r.before;
         payments = r.payments;
-        is_head = r.is_head;
-        each_row = r.each_row;
+        taken = r.taken;
         stands =
             record {
               within = r.stands.within;
@@ -143,15 +157,27 @@ triple-taken old cursor t prior q h m takes many =
     )
 
 -- a row is refused
+row-fault : (e : Instance) (d b : ℕ) (qs : List Payment) (r : Rec) (f : CertFault) → row_fault e r ≡ Some f
+    → result_err (after (price_kind e) (record { head = Row d b; rows = qs }) r) ≡ Some f
+row-fault e d b qs r f is = rw is refl
+
+place-fault : (e : Instance) (d b : ℕ) (qs : List Payment) (r : Rec) (q : Payment) (f : CertFault)
+    → row_fault e r ≡ None → payment_of e r ≡ Some q → payment_fault qs q ≡ Some f
+    → result_err (after (price_kind e) (record { head = Row d b; rows = qs }) r) ≡ Some f
+place-fault e d b qs r q f none states is = rw (none, states, is) refl
+
 row-form : (old : RowReader) (r : Rec) (f : CertFault) (h : IsReading old) → is_text r ≡ true
     → (row_fault old.election.now r ≡ Some f) ⊎ RefusesPayment old.election.now r old.prior f
-    → price_form old.election.now (h.heads ++ h.rows) (Some r) ≡ Some f
-row-form old r f h text why = elim why [
-  | inl by_itself ↦ form-of-row old.election.now old.denominator old.budget h.heads h.rows r f h.is_head text by_itself
-  | inr by_place ↦
-      form-of-payment old.election.now old.denominator old.budget h.heads h.rows h.payments r by_place.payment h.is_head
-      h.each_row text by_place.no_fault by_place.states ∙ by_place.stops h.payments h.remembers
-]
+    → price_form old.election.now h.before (Some r) ≡ Some f
+unfolding price_form
+row-form old r f h text why =
+    let e = old.election.now in
+    form-here (price_kind e) h.before (record { head = Row old.denominator old.budget; rows = h.payments }) r h.taken text
+    ∙ elim why [
+      | inl by_itself ↦ row-fault e old.denominator old.budget h.payments r f by_itself
+      | inr by_place ↦ place-fault e old.denominator old.budget h.payments r by_place.payment f by_place.no_fault
+          by_place.states (by_place.stops h.payments h.remembers)
+    ]
 
 row-refused : (old : RowReader) (new : Position) (f : CertFault) → IsReading old → MeetsRecord old.cursor new
     → (row_fault old.election.now new.row ≡ Some f) ⊎ RefusesPayment old.election.now new.row old.prior f
@@ -170,8 +196,7 @@ row-refused old new f h m why =
             at = m.at;
           };
       first =
-          (refused-at (price_form e) (certificate_records old.bytes.now) old.cursor new (h.heads ++ h.rows) f
-          h.stands m (row-form old new.row f h m.is_utf8 why)).first;
+          (refused-at (price_form e) (certificate_records old.bytes.now) old.cursor new h.before f h.stands m (row-form old new.row f h m.is_utf8 why)).first;
     }
 
 -- a row is given or refused
@@ -201,8 +226,8 @@ pub next-refused : (old : RowReader) (new : Position) (r : CertRefusal) → IsRe
 next-refused old new r h comes = elim comes [
   | inl memory ↦ inl memory
   | inr bad ↦
-      elim (bytes-refused old.election.now (certificate_records old.bytes.now) (h.heads ++ h.rows) old.cursor new
-      r h.stands (inr bad)) [
+      elim (bytes-refused old.election.now (certificate_records old.bytes.now) h.before old.cursor new r
+      h.stands (inr bad)) [
         | inl memory ↦ inl memory
         | inr refused ↦ inr (record {
           record_of = bad.2.bad;
@@ -220,32 +245,18 @@ next-refused old new r h comes = elim comes [
       ]
 ]
 
--- numbers that rise from one on do not fall
-rise-low : (low : ℕ) (xs : List ℕ) → RiseFrom low xs → AllByRecursion (λ y. low ≤ y) xs
-rise-low low [] h = tt
-rise-low low (x ∷ xs) h =
-    let first : low ≤ x = h.0 in
-    (first, all-weaker (λ y. x ≤ y) (λ y. low ≤ y) xs (λ y above. omega arith) (rise-low x xs h.1))
-
-pub rises : (low : ℕ) (xs : List ℕ) → RiseFrom low xs → IsNonDecreasing xs
-rises low [] h = nil-rises
-rises low (x ∷ xs) h = cons-rises x xs (rise-low x xs h.1) (rises x xs h.1)
-
 -- the end
 pub none-left : (old : RowReader) (cursor : Position) → IsReading old → MeetsEnd old.cursor cursor
     → Advances old (record old { cursor = cursor }) (Ok None)
 none-left old cursor h m =
     let e = old.election.now in
     let recs = certificate_records old.bytes.now in
-    let end = at-end (price_form e) recs old.cursor cursor (h.heads ++ h.rows) h.stands m in
-    let rows = stated-length (payment_of e) h.rows h.payments h.each_row in
+    let end = at-end (price_form e) recs old.cursor cursor h.before h.stands m in
     let reading : IsReading (record old { cursor = cursor }) =
     record {
-      heads = h.heads;
-      rows = h.rows;
+      before = h.before;
       payments = h.payments;
-      is_head = h.is_head;
-      each_row = h.each_row;
+      taken = h.taken;
       stands = end.0;
       remembers = h.remembers;
       each_project = h.each_project;
@@ -256,34 +267,27 @@ none-left old cursor h m =
         between = between-rows (record old { cursor = cursor }) reading;
         given_then = given-is (record old { cursor = cursor }) reading ∙ sym (given-is old h);
         states =
-            record {
-              head = h.is_head.name;
-              denominator = h.is_head.denominator_of;
-              budget = h.is_head.budget_of;
-              columns = h.is_head.columns;
-              rows = h.rows;
-              payments = h.payments;
-              cut = end.1 ∙ ap (λ (hs : List Rec). hs ++ h.rows) h.is_head.cut;
-              text = subst (AllByRecursion (λ r. is_text r ≡ true)) (sym end.1) h.stands.text;
-              is_head = h.is_head.is_name;
-              is_denominator = h.is_head.is_denominator;
-              is_budget = h.is_head.is_budget;
-              is_columns = h.is_head.are_columns;
-              each_row = h.each_row;
-              in_order = rises 0 (voters_of h.payments) h.remembers.in_order;
-              once = h.remembers.once;
-              few = omega arith;
-              each_project = refl;
-              same_payments = ap (λ (qs : List Payment). map (payments_stated e qs) (all_voters e)) (given-is old h);
-            };
+            subst (λ (qs : List Payment). IsPriceText recs e (prices-by e old.denominator old.budget qs))
+            (sym (given-is old h))
+            (taken-text recs e old.denominator old.budget h.payments
+            (subst
+            (λ (all : List Rec). Taken (price_kind e) all
+            (record { head = Row old.denominator old.budget; rows = h.payments })) (sym end.1) h.taken));
       },
       reading,
     )
 
 -- the start
-pub opened : (e : Instance) (recs : List Rec) (c : Position) → c.place ≡ 0 → c.left ≡ recs
+at-start : (e : Instance) (recs : List Rec) (c : Position) → c.place ≡ 0 → c.left ≡ recs
     → StandsBehind (price_form e) recs c []
-opened e recs c place left = grind arith
+unfolding price_form
+at-start e recs c place left = grind arith
+
+pub opened : (e : Instance) (recs : List Rec) (c : Position) → c.place ≡ 0 → c.left ≡ recs
+    → StandsInHead e recs c [] Name
+unfolding price_form
+opened e recs c place left =
+    record { stands = at-start e recs c place left; taken = nothing-taken (price_kind e) }
 
 pub refused-in-head : (recs : List Rec) (e : Instance) (new : Position) (r : CertRefusal) → ReadsHead e recs new (Err r)
     → IsInHead recs r

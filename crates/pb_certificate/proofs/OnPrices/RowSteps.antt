@@ -1,5 +1,5 @@
 -- One more payment after some others.
-use Rattle.std.proofs.Common.{◌≡◌, ◌≢◌, ◌≤◌, ◌∙◌, ℕ, Bool, true, false, List, [], ◌∷◌, ◌++◌, refl, sym, inl, inr, arith}
+use Rattle.std.proofs.Common.{◌≡◌, ◌≢◌, ◌≤◌, ◌<◌, ◌∙◌, ℕ, Bool, true, false, List, [], ◌∷◌, ◌++◌, length, refl, sym, inl, inr, arith, None}
 use Rattle.std.specs.Prelude.{◌==◌, ◌&&◌, ◌||◌, filter, map}
 use Rattle.std.specs.List.{AllByRecursion, IsDistinct, list_any}
 use Rattle.std.proofs.lemmas.Bool.{and_parts, cases_Bool, cases_eq, eq-eqb, eqb-true, false≢true, ne_eqb}
@@ -7,9 +7,9 @@ use Rattle.std.proofs.lemmas.List.{append-nil, map-append}
 use Rattle.std.proofs.lemmas.List.Elements.{filter-append}
 use Rattle.std.proofs.Math.Bool.{or-false}
 use Rattle.pb_certificate.specs.Prices.Text.{Payment, same_pair}
-use Rattle.pb_certificate.specs.Prices.RowFaults.{last_number, last_voter}
+use Rattle.pb_certificate.specs.Prices.RowFaults.{last_number, last_voter, payment_fault}
 use Rattle.pb_certificate.specs.Inside.Prices.PriorRows.{RiseFrom, last_payer}
-use Rattle.pb_certificate.proofs.MarkLemmas.{distinct-push}
+use Rattle.pb_records.proofs.Distinct.{distinct-push}
 use Rattle.pb_records.proofs.Each.{all-fail, all-weaker}
 
 abbrev pub voters_of : List Payment → List ℕ
@@ -133,3 +133,12 @@ payer-here qs q = grind (arith, eq-eqb, filter-append, map-append, last-push)
 pub payer-other : (qs : List Payment) (q : Payment) (j : ℕ) → j ≢ q.project
     → last_payer (qs ++ (q ∷ [])) j ≡ last_payer qs j
 payer-other qs q j other = grind (arith, ne_eqb, filter-append, append-nil)
+
+-- a payment that may follow others
+pub record MayFollow (qs : List Payment) (q : Payment) : Type 0 where
+  pub not_lower : last_voter qs ≤ q.voter
+  pub fresh : list_any (same_pair q) qs ≡ false
+  pub few : length qs < 10000000
+
+pub may-follow : (qs : List Payment) (q : Payment) → payment_fault qs q ≡ None → MayFollow qs q
+may-follow qs q h = grind arith

@@ -1,24 +1,27 @@
 -- The rows of a refutation, and what they state of each project.
 use Rattle.std.proofs.Common.{◌≡◌, ◌≢◌, ◌∙◌, ◌+◌, ◌-◌, ℕ, zero, suc, Bool, true, false, cond, List, [], ◌∷◌, ◌++◌, length, refl, sym, ap, arith, Option, Some, None}
-use Rattle.std.specs.Prelude.{◌==◌, ◌||◌, Ok, Err, map, nat_lt, replicate, is_none, is_some, slice_index_or}
-use Rattle.std.specs.List.{AllByRecursion, list_any, range_with_len}
-use Rattle.std.specs.Str.{bytes_eq}
+use Rattle.std.specs.Prelude.{◌==◌, ◌||◌, Result, Ok, Err, map, nat_lt, replicate, is_none, is_some, slice_index_or}
+use Rattle.std.specs.List.{list_any, range_with_len}
+use Rattle.std.specs.Result.{result_map_both}
 use Rattle.std.proofs.lemmas.Bool.{eq-eqb, lt-ltb, ne_eqb}
 use Rattle.std.proofs.lemmas.List.FromFn.{get_or-map-range_with_len, length-map-range_with_len}
 use Rattle.pb_election.specs.Instance.{Instance, IsProject, projects}
+use Rattle.pb_election.proofs.Elections.{found_is}
+use Rattle.pb_records.specs.Headed.{rows_after, unless_repeated}
+use Rattle.pb_records.specs.Headed as generic
 use Rattle.pb_records.specs.Records.{Field, Rec}
 use Rattle.pb_records.specs.Cells.{cell}
 use Rattle.pb_certificate.specs.Fields.{fields, project_in}
-use Rattle.pb_certificate.specs.Faults.{same_project_field}
+use Rattle.pb_certificate.specs.Refutations.Kind.{refutation_row, row_from, weighting_from, weighting_in}
 use Rattle.pb_certificate.specs.Refutations.Text.{WeightRow, role_in, same_project, stated_by, stated_of, weight_in, weight_row_by, weight_row_of}
-use Rattle.pb_certificate.specs.Inside.Refutations.{after_weight_row, is_free, rows_after, weighting_from, with_row}
+use Rattle.pb_certificate.specs.Inside.Refutations.{after_weight_row, is_free, weights_after, with_row}
 use Rattle.pb_certificate.specs.declared.refutations.weighting.Role.{Role}
 use Rattle.pb_certificate.specs.declared.refutations.weighting.Weighting.{Weighting}
+use Rattle.pb_certificate.specs.declared.refusal.CertFault.{CertFault}
 use Rattle.pb_certificate.specs.declared.refusal.CertFault.TheVariants as fault
 use Rattle.pb_certificate.proofs.Cells.{cell-is}
 use Rattle.pb_certificate.proofs.Heads.{triple-is}
 use Rattle.pb_certificate.proofs.MarkLemmas.{set-range}
-use Rattle.pb_certificate.proofs.Ids.{same-ids}
 
 -- what a row says: its three fields, and what they state
 pub record Row (e : Instance) (r : Rec) (q : WeightRow) : Type 0 where
@@ -47,32 +50,52 @@ cells-state : (e : Instance) (r : Rec) (x : Role) (j n : ℕ) → (length (field
 cells-state e r x j n three role weight project =
     ap (weight_row_by e) (triple-is r three) ∙ rw (role, weight, project) refl
 
+-- what a row states of these cells, and of no others
+pub row-states : (e : Instance) (r : Rec) (q : WeightRow) → refutation_row e r ≡ Ok q → weight_row_of e r ≡ Some q
+row-states e r q h =
+    by (length (fields r) == 3) (role_in (cell 0 r)) (weight_in (cell 2 r)) (project_in e (cell 1 r)) refl refl refl refl h
+  where
+    by : (three : Bool) (role : Option Role) (weight project : Option ℕ) → (length (fields r) == 3) ≡ three
+        → role_in (cell 0 r) ≡ role → weight_in (cell 2 r) ≡ weight → project_in e (cell 1 r) ≡ project
+        → row_from (cond three (weighting_from role weight) (Err fault.BadRow)) project ≡ Ok q
+        → weight_row_of e r ≡ Some q
+    by false role weight project a b c d k = cc k
+    by true None weight project a b c d k = cc k
+    by true (Some x) None project a b c d k = cc k
+    by true (Some x) (Some n) None a b c d k = cc k
+    by true (Some x) (Some n) (Some j) a b c d k =
+        let same : record { project = j; states = record { role = x; weight = n } } ≡ q = cc k in
+        cells-state e r x j n a b c d ∙ ap Some same
+
+pub states-row : (e : Instance) (r : Rec) (q : WeightRow) → weight_row_of e r ≡ Some q → refutation_row e r ≡ Ok q
+states-row e r q h =
+    let row = row-of e r q h in
+    let cells : List Field = row.f ∷ row.c ∷ row.n ∷ [] in
+    rw (
+      ap length row.shape,
+      ap role_in (cell-is r cells 0 row.shape) ∙ row.role,
+      ap weight_in (cell-is r cells 2 row.shape) ∙ row.weight,
+      row-project e r q row,
+    ) refl
+
 -- A project stood before exactly where the rows state something of it.
 
 turn : (j k : ℕ) → (j == k) ≡ (k == j)
 turn j k = grind arith
 
-pub stood-before : (e : Instance) (r : Rec) (j : ℕ) (done : List Rec) (qs : List WeightRow)
-    → project_in e (cell 1 r) ≡ Some j → map (weight_row_of e) done ≡ map Some qs
-    → list_any (same_project_field r) done ≡ is_some (stated_of qs j)
-stood-before e r j [] [] project h = refl
-stood-before e r j [] (q ∷ qs) project h = cc
-stood-before e r j (d ∷ ds) [] project h = cc
-stood-before e r j (d ∷ ds) (q ∷ qs) project h =
-    let first : weight_row_of e d ≡ Some q = cc in
-    let rest : map (weight_row_of e) ds ≡ map Some qs = cc in
-    let same : bytes_eq (cell 1 r) (cell 1 d) ≡ (q.project == j) =
-    same-ids e (cell 1 r) (cell 1 d) j q.project project (row-project e d q (row-of e d q first))
-    ∙ turn j q.project in
-    ap (λ b. b || list_any (same_project_field r) ds) same
-    ∙ by (q.project == j) (stood-before e r j ds qs project rest)
+pub same-turned : (a b : WeightRow) → same_project a b ≡ same_project b a
+same-turned a b = turn a.project b.project
+
+stood-before : (qs : List WeightRow) (q : WeightRow) → list_any (same_project q) qs ≡ is_some (stated_of qs q.project)
+stood-before [] q = refl
+stood-before (p ∷ ps) q = rw (turn q.project p.project) (by (p.project == q.project) (stood-before ps q))
   where
-    by : (b : Bool) → list_any (same_project_field r) ds ≡ is_some (stated_of qs j)
-        → (b || list_any (same_project_field r) ds) ≡ is_some (cond b (Some q.states) (stated_of qs j))
+    by : (b : Bool) → list_any (same_project q) ps ≡ is_some (stated_of ps q.project)
+        → (b || list_any (same_project q) ps) ≡ is_some (cond b (Some p.states) (stated_of ps q.project))
     by true rest = refl
     by false rest = rest
 
-pub free-is : (e : Instance) (rows : List (Option Weighting)) (qs : List WeightRow) (j : ℕ) → rows ≡ stated_by e qs
+free-is : (e : Instance) (rows : List (Option Weighting)) (qs : List WeightRow) (j : ℕ) → rows ≡ stated_by e qs
     → IsProject e j → is_free rows j ≡ is_none (stated_of qs j)
 free-is e rows qs j are at =
     let many : length rows ≡ projects e =
@@ -110,25 +133,7 @@ stated-other : (qs : List WeightRow) (q : WeightRow) (i : ℕ) → i ≢ q.proje
 stated-other [] q i other = rw (ne_eqb q.project i (λ e. other (sym e))) refl
 stated-other (p ∷ ps) q i other = ap (λ o. cond (p.project == i) (Some p.states) o) (stated-other ps q i other)
 
--- what has no row is apart from all that have one, and what is apart has none
-pub apart : (qs : List WeightRow) (q : WeightRow) → stated_of qs q.project ≡ None
-    → AllByRecursion (λ m. same_project m q ≡ false) qs
-apart [] q none = tt
-apart (p ∷ ps) q none = by (p.project == q.project) refl (apart ps q) none
-  where
-    by : (b : Bool) → (p.project == q.project) ≡ b
-        → (stated_of ps q.project ≡ None → AllByRecursion (λ m. same_project m q ≡ false) ps)
-        → cond b (Some p.states) (stated_of ps q.project) ≡ None
-        → AllByRecursion (λ m. same_project m q ≡ false) (p ∷ ps)
-    by true is more none = cc none
-    by false is more none = (is, more none)
-
-pub unstated : (qs : List WeightRow) (q : WeightRow) → AllByRecursion (λ m. same_project m q ≡ false) qs
-    → stated_of qs q.project ≡ None
-unstated [] q h = refl
-unstated (p ∷ ps) q h = rw h.0 (unstated ps q h.1)
-
-pub stated-more : (e : Instance) (rows : List (Option Weighting)) (qs : List WeightRow) (q : WeightRow)
+stated-more : (e : Instance) (rows : List (Option Weighting)) (qs : List WeightRow) (q : WeightRow)
     → rows ≡ stated_by e qs → IsProject e q.project → stated_of qs q.project ≡ None
     → with_row rows q.project q.states ≡ stated_by e (qs ++ (q ∷ []))
 stated-more e rows qs q are at none =
@@ -138,42 +143,27 @@ stated-more e rows qs q are at none =
     (omega (arith, at.0, at.1)) (ap (stated_of (qs ++ (q ∷ []))) place ∙ stated-here qs q none)
     (λ i other. stated-other qs q i (λ same. other (same ∙ sym place)))
 
--- What a row stated that was added.
+-- What a draft has after one more row.
 
-pub record Added (e : Instance) (rows new : List (Option Weighting)) (r : Rec) : Type 0 where
-  pub row : WeightRow
-  pub states : weight_row_of e r ≡ Some row
-  pub project : project_in e (cell 1 r) ≡ Some row.project
-  pub free : is_free rows row.project ≡ true
-  pub new_is : new ≡ with_row rows row.project row.states
-
-pub was-added : (e : Instance) (rows new : List (Option Weighting)) (r : Rec) → after_weight_row e rows r ≡ Ok new
-    → Added e rows new r
-was-added e rows new r after =
-    by (length (fields r) == 3) (role_in (cell 0 r)) (weight_in (cell 2 r)) (project_in e (cell 1 r)) refl refl refl
-    refl after
+pub after-row : (e : Instance) (qs : List WeightRow) (r : Rec)
+    → after_weight_row e (stated_by e qs) r
+    ≡ result_map_both (stated_by e) (λ f. f)
+    (rows_after (unless_repeated fault.Repeated same_project) qs (refutation_row e r))
+after-row e qs r = by (weighting_in r) (project_in e (cell 1 r)) refl
   where
-    placed : (x : Role) (n j : ℕ) (b : Bool) → (length (fields r) == 3) ≡ true → role_in (cell 0 r) ≡ Some x
-        → weight_in (cell 2 r) ≡ Some n → project_in e (cell 1 r) ≡ Some j → is_free rows j ≡ b
-        → cond b (Ok (with_row rows j (record { role = x; weight = n }))) (Err fault.Repeated) ≡ Ok new
-        → Added e rows new r
-    placed x n j true three role weight project free h =
-        let same : with_row rows j (record { role = x; weight = n }) ≡ new = cc h in
-        record {
-          row = record { project = j; states = record { role = x; weight = n } };
-          states = cells-state e r x j n three role weight project;
-          project = project;
-          free = free;
-          new_is = sym same;
-        }
-    placed x n j false three role weight project free h = cc h
+    last : (q : WeightRow) (o : Option Weighting) → IsProject e q.project → stated_of qs q.project ≡ o
+        → cond (is_none o) (Ok (with_row (stated_by e qs) q.project q.states)) (Err fault.Repeated)
+        ≡ result_map_both (stated_by e) (λ f. f) (generic.with_row qs q (cond (is_some o) (Some fault.Repeated) None))
+    last q None at none = ap Ok (stated-more e (stated_by e qs) qs q refl at none)
+    last q (Some x) at some = refl
 
-    by : (three : Bool) (role : Option Role) (weight project : Option ℕ) → (length (fields r) == 3) ≡ three
-        → role_in (cell 0 r) ≡ role → weight_in (cell 2 r) ≡ weight → project_in e (cell 1 r) ≡ project
-        → rows_after rows (cond three (weighting_from role weight) (Err fault.BadRow)) project ≡ Ok new
-        → Added e rows new r
-    by false role weight project a b c d h = cc h
-    by true None weight project a b c d h = cc h
-    by true (Some x) None project a b c d h = cc h
-    by true (Some x) (Some n) None a b c d h = cc h
-    by true (Some x) (Some n) (Some j) a b c d h = placed x n j (is_free rows j) a b c d refl h
+    by : (x : Result Weighting CertFault) (place : Option ℕ) → project_in e (cell 1 r) ≡ place
+        → weights_after (stated_by e qs) x place
+        ≡ result_map_both (stated_by e) (λ f. f)
+        (rows_after (unless_repeated fault.Repeated same_project) qs (row_from x place))
+    by (Err f) place is = refl
+    by (Ok x) None is = refl
+    by (Ok x) (Some j) is =
+        let q : WeightRow = record { project = j; states = x } in
+        let at = (found_is e (cell 1 r) j is).0 in
+        rw (free-is e (stated_by e qs) qs j refl at, stood-before qs q) (last q (stated_of qs j) at refl)

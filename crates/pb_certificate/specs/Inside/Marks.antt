@@ -1,5 +1,5 @@
 -- The readers' own marks: which of the numbers from 1 on have been named. No claim on a file rests on this.
-use Rattle.std.specs.Prelude.{◌≡◌, ◌-◌, if◌then◌else◌, ⊤, Bool, true, ℕ, List, filter, length, map, is_some, Option, Some, None, MatchResult, Result, Ok, Err, slice_index_or, slice_set}
+use Rattle.std.specs.Prelude.{◌-◌, if◌then◌else◌, Bool, true, ℕ, List, filter, length, map, is_some, Option, Some, None, Result, Ok, Err, slice_index_or, slice_set}
 use Rattle.std.specs.List.{range_with_len}
 use Rattle.pb_election.specs.Instance.{Instance, projects, voters}
 use Rattle.pb_records.specs.Records.{Field}
@@ -31,10 +31,6 @@ voter_marks e names = marks_of (λ i. was_named names (Voter i)) (voters e)
 
 abbrev pub project_marks : Instance → List Named → List Bool
 project_marks e names = marks_of (λ j. was_named names (Project j)) (projects e)
-
--- a call that changes marks ended as this says: with the new marks, or with the fault
-abbrev pub EndsAs : {A : Type 0} → Result A CertFault → Result ⊤ CertFault → A → Type 0
-EndsAs after result new = MatchResult result (λ done. after ≡ Ok new) (λ f. after ≡ Err f)
 
 -- the marks after something was named that has a number, or has none, which is the fault here
 abbrev pub marks_after : CertFault → Option ℕ → List Bool → Result (List Bool) CertFault

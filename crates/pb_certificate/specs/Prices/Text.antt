@@ -55,6 +55,12 @@ above_0 j x = if nat_lt 0 x then Some (j, x) else None
 abbrev pub payments_stated : Instance → List Payment → ℕ → List (ℕ × ℕ)
 payments_stated e qs i = filter_map (λ j. above_0 j (stated qs i j)) (all_projects e)
 
+abbrev pub price_name : List Field
+price_name = codes "pb-prices" ∷ codes "1" ∷ []
+
+abbrev pub price_columns : List Field
+price_columns = codes "voter" ∷ codes "project" ∷ codes "payment" ∷ []
+
 -- these are the four head records, with these numbers
 pub record IsPriceHead (denominator budget : ℕ) (heads : List Rec) : Type 0 where
   pub name : Rec
@@ -62,10 +68,10 @@ pub record IsPriceHead (denominator budget : ℕ) (heads : List Rec) : Type 0 wh
   pub budget_of : Rec
   pub columns : Rec
   pub cut : heads ≡ name ∷ denominator_of ∷ budget_of ∷ columns ∷ []
-  pub is_name : fields name ≡ codes "pb-prices" ∷ codes "1" ∷ []
+  pub is_name : fields name ≡ price_name
   pub is_denominator : StatesNumber (codes "denominator") 1 most_denominator denominator_of denominator
   pub is_budget : StatesNumber (codes "voter_budget") 0 most_numerator budget_of budget
-  pub are_columns : fields columns ≡ codes "voter" ∷ codes "project" ∷ codes "payment" ∷ []
+  pub are_columns : fields columns ≡ price_columns
 
 -- the records are the text of these prices
 pub record IsPriceText (recs : List Rec) (e : Instance) (p : Prices) : Type 0 where
@@ -77,10 +83,10 @@ pub record IsPriceText (recs : List Rec) (e : Instance) (p : Prices) : Type 0 wh
   pub payments : List Payment
   pub cut : nonblank recs ≡ head ∷ denominator ∷ budget ∷ columns ∷ rows
   pub text : AllByRecursion (λ r. IsTrue (is_text r)) (nonblank recs)
-  pub is_head : fields head ≡ codes "pb-prices" ∷ codes "1" ∷ []
+  pub is_head : fields head ≡ price_name
   pub is_denominator : StatesNumber (codes "denominator") 1 most_denominator denominator p.denominator
   pub is_budget : StatesNumber (codes "voter_budget") 0 most_numerator budget p.budget
-  pub is_columns : fields columns ≡ codes "voter" ∷ codes "project" ∷ codes "payment" ∷ []
+  pub is_columns : fields columns ≡ price_columns
   pub each_row : map (payment_of e) rows ≡ map Some payments
   pub in_order : IsNonDecreasing (map (λ q. q.voter) payments)
   pub once : IsDistinct same_pair payments

@@ -37,9 +37,6 @@ abbrev pub satisfaction_by : Measure → List Field
 satisfaction_by ByCount = codes "satisfaction" ∷ codes "count" ∷ []
 satisfaction_by ByCost = codes "satisfaction" ∷ codes "cost" ∷ []
 
-abbrev pub all_measures : List Measure
-all_measures = ByCount ∷ ByCost ∷ []
-
 -- the head records state this measure: version 1 has one head record and counts, version 2 has a second one
 abbrev pub StateMeasure : Measure → List Rec → Type 0
 StateMeasure m [] = ⊥

@@ -1,8 +1,10 @@
 //! An outcome file, as far as it has been read.
 ghost use Rattle.std.specs.Prelude.{◌≡◌, [], IfOk};
 ghost use Rattle.csv.specs.Records.{fields_of};
-ghost use Rattle.pb_certificate.specs.Inside.Marks.{EndsAs};
-ghost use Rattle.pb_certificate.specs.Inside.Outcomes.{OutcomeTaken, after_outcome_row};
+ghost use Rattle.pb_records.specs.Inside.Headed.{EndsAs, HasTaken, Steps};
+ghost use Rattle.pb_certificate.specs.Inside.Marks.{project_marks};
+ghost use Rattle.pb_certificate.specs.Inside.Outcomes.{after_outcome_row, outcome_had};
+ghost use Rattle.pb_certificate.specs.Outcomes.Kind.{outcome_kind};
 
 use crate::CertFault;
 use crate::fields::{is_pair, width};
@@ -24,13 +26,27 @@ pub struct OutcomeDraft {
 impl OutcomeDraft {
     /// Nothing has been read.
     pub fn new(alloc: Global, election: &Election) -> Result<OutcomeDraft, AllocError>
-        ensures { IfOk result (λ d. OutcomeTaken election.now d.begun d.marks.items []) }
+        ensures { IfOk result (λ d. HasTaken (outcome_kind election.now) (project_marks election.now) (outcome_had d) []) }
     {
         let marks = vec![in alloc; false; election.projects() as usize]?;
         Ok(OutcomeDraft {
             begun: false,
             marks,
         })
+    }
+
+    // Takes one more record, or tells its fault.
+    fn take_record(&mut self, election: &Election, row: &StringRecord) -> Result<(), CertFault>
+        ensures { Steps (outcome_kind election.now) (project_marks election.now) (outcome_had self.old) (outcome_had self.new) (fields_of row.now) result }
+    {
+        if self.begun {
+            return self.take_row(election, row);
+        }
+        if !is_pair(row, "pb-outcome", "1") {
+            return Err(CertFault::BadHead);
+        }
+        self.begun = true;
+        Ok(())
     }
 
     fn take_row(&mut self, election: &Election, row: &StringRecord) -> Result<(), CertFault>
@@ -53,24 +69,20 @@ impl OutcomeDraft {
 }
 
 impl Draft<Election> for OutcomeDraft {
-    ghost use Rattle.pb_certificate.specs.Faults.{outcome_form};
-    ghost use Rattle.pb_certificate.specs.Inside.Outcomes.{OutcomeTaken};
+    ghost use Rattle.pb_records.specs.Inside.Headed.{HasTaken};
+    ghost use Rattle.pb_records.specs.Headed.{headed_form};
+    ghost use Rattle.pb_certificate.specs.Inside.Marks.{project_marks};
+    ghost use Rattle.pb_certificate.specs.Inside.Outcomes.{outcome_had};
+    ghost use Rattle.pb_certificate.specs.Outcomes.Kind.{outcome_kind};
 
     type Fault = CertFault;
 
-    ghost form = { outcome_form };
+    ghost form = { λ e. headed_form (outcome_kind e) };
 
-    ghost HasTaken = { λ e d. OutcomeTaken e d.begun d.marks.items };
+    ghost HasTaken = { λ e d. HasTaken (outcome_kind e) (project_marks e) (outcome_had d) };
 
     fn take(&mut self, election: &Election, row: &StringRecord) -> Result<(), Stop<CertFault>> {
-        if !self.begun {
-            if !is_pair(row, "pb-outcome", "1") {
-                return Err(Stop::Fault(CertFault::BadHead));
-            }
-            self.begun = true;
-            return Ok(());
-        }
-        match self.take_row(election, row) {
+        match self.take_record(election, row) {
             Ok(()) => Ok(()),
             Err(fault) => Err(Stop::Fault(fault)),
         }

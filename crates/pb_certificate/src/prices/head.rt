@@ -1,12 +1,9 @@
 //! The head of a price certificate.
-ghost use Rattle.std.specs.Prelude.{◌≡◌, [], List, codes};
+ghost use Rattle.std.specs.Prelude.{◌≡◌, [], ℕ, List};
 ghost use Rattle.pb_election.specs.Instance.{Instance};
 ghost use Rattle.pb_records.specs.Records.{Rec};
-ghost use Rattle.pb_certificate.specs.Fields.{StatesNumber};
-ghost use Rattle.pb_certificate.specs.Faults.{price_form};
-ghost use Rattle.pb_certificate.specs.Inside.Prices.Places.{StandsBehind};
-ghost use Rattle.pb_certificate.specs.Inside.Prices.Head.{HasFields, HeadGives, NextHead, ReadsHead, column_fields, name_fields};
-ghost use Rattle.pb_certificate.specs.Prices.{most_denominator, most_numerator};
+ghost use Rattle.pb_certificate.specs.Inside.Prices.Head.{HeadGives, NextHead, ReadsHead, StandsInHead};
+ghost use Rattle.pb_certificate.specs.Prices.Kind.{Awaited as awaited};
 
 use crate::fields::{MOST_NUMERATOR, head_number, is_pair, is_triple};
 use crate::prices::places::next_record;
@@ -50,7 +47,7 @@ fn refused_here(cursor: &Cursor, fault: CertFault) -> CertRefusal
 
 // Takes the record that names the format.
 fn take_name(cursor: &mut Cursor) -> Result<(), CertRefusal>
-    ensures { HeadGives (HasFields name_fields) 0 cursor.old cursor.new result }
+    ensures { HeadGives awaited.Name (λ done. awaited.Denominator) cursor.old cursor.new result }
 {
     next_head(cursor)?;
     if !is_pair(cursor.row(), "pb-prices", "1") {
@@ -61,7 +58,7 @@ fn take_name(cursor: &mut Cursor) -> Result<(), CertRefusal>
 
 // Takes the denominator.
 fn take_denominator(cursor: &mut Cursor) -> Result<u32, CertRefusal>
-    ensures { HeadGives (StatesNumber (codes "denominator") 1 most_denominator) 1 cursor.old cursor.new result }
+    ensures { HeadGives awaited.Denominator (λ d. awaited.Budget d) cursor.old cursor.new result }
 {
     next_head(cursor)?;
     match head_number(cursor.row(), "denominator", 1, MOST_DENOMINATOR) {
@@ -72,7 +69,7 @@ fn take_denominator(cursor: &mut Cursor) -> Result<u32, CertRefusal>
 
 // Takes the numerator of the voters' budget.
 fn take_budget(cursor: &mut Cursor) -> Result<u128, CertRefusal>
-    ensures { HeadGives (StatesNumber (codes "voter_budget") 0 most_numerator) 2 cursor.old cursor.new result }
+    ensures { (d : ℕ) → HeadGives (awaited.Budget d) (λ b. awaited.Columns d b) cursor.old cursor.new result }
 {
     next_head(cursor)?;
     match head_number(cursor.row(), "voter_budget", 0, MOST_NUMERATOR) {
@@ -83,7 +80,7 @@ fn take_budget(cursor: &mut Cursor) -> Result<u128, CertRefusal>
 
 // Takes the names of the columns.
 fn take_columns(cursor: &mut Cursor) -> Result<(), CertRefusal>
-    ensures { HeadGives (HasFields column_fields) 3 cursor.old cursor.new result }
+    ensures { (d b : ℕ) → HeadGives (awaited.Columns d b) (λ done. awaited.Row d b) cursor.old cursor.new result }
 {
     next_head(cursor)?;
     if !is_triple(cursor.row(), "voter", "project", "payment") {
@@ -94,7 +91,7 @@ fn take_columns(cursor: &mut Cursor) -> Result<(), CertRefusal>
 
 /// Takes the four head records, or tells the first fault, which stands at one of them or at the end before the fourth.
 pub fn read_head(cursor: &mut Cursor) -> Result<PriceHead, CertRefusal>
-    ensures { (e : Instance) (recs : List Rec) → StandsBehind (price_form e) recs cursor.old [] → ReadsHead e recs cursor.new result }
+    ensures { (e : Instance) (recs : List Rec) → StandsInHead e recs cursor.old [] awaited.Name → ReadsHead e recs cursor.new result }
 {
     take_name(cursor)?;
     let denominator = take_denominator(cursor)?;

@@ -1,10 +1,10 @@
 //! A refutation, as far as it has been read.
-ghost use Rattle.std.specs.Prelude.{◌≡◌, ◌≤◌, [], true, IfOk, IsTrue};
+ghost use Rattle.std.specs.Prelude.{◌≡◌, ◌≤◌, [], IfOk, IsTrue};
 ghost use Rattle.csv.specs.Records.{fields_of};
-ghost use Rattle.pb_election.specs.Instance.{Instance};
-ghost use Rattle.pb_records.specs.Cells.{is_text};
-ghost use Rattle.pb_certificate.specs.Inside.Marks.{EndsAs};
-ghost use Rattle.pb_certificate.specs.Inside.Refutations.{RefutationTaken, Took, after_weight_row, is_free, taken_so_far, with_row};
+ghost use Rattle.pb_records.specs.Inside.Headed.{EndsAs, HasTaken, Steps};
+ghost use Rattle.pb_certificate.specs.Inside.Refutations.{after_weight_row, is_free, refutation_had, with_row};
+ghost use Rattle.pb_certificate.specs.Refutations.Kind.{refutation_head, refutation_kind};
+ghost use Rattle.pb_certificate.specs.Refutations.Text.{stated_by};
 
 use crate::CertFault;
 use crate::fields::{head_number, is_pair, is_triple};
@@ -41,7 +41,7 @@ pub struct RefutationDraft {
 impl RefutationDraft {
     /// Nothing has been read.
     pub fn new(alloc: Global, election: &Election) -> Result<RefutationDraft, AllocError>
-        ensures { IfOk result (λ d. RefutationTaken election.now (taken_so_far d) []) }
+        ensures { IfOk result (λ d. HasTaken (refutation_kind election.now) (stated_by election.now) (refutation_had d) []) }
     {
         let rows = vec![in alloc; None; election.projects() as usize]?;
         Ok(RefutationDraft {
@@ -51,65 +51,57 @@ impl RefutationDraft {
         })
     }
 
+    // Takes one more record, or tells its fault.
+    fn take_record(&mut self, election: &Election, row: &StringRecord) -> Result<(), CertFault>
+        ensures { Steps (refutation_kind election.now) (stated_by election.now) (refutation_had self.old) (refutation_had self.new) (fields_of row.now) result }
+    {
+        match self.awaited {
+            Awaited::Format => self.take_format(row),
+            Awaited::Cover => self.take_cover(row),
+            Awaited::Columns => self.take_columns(row),
+            Awaited::Row => self.add_row(election, row),
+        }
+    }
+
     // Takes the record that names the format.
-    fn take_format(&mut self, row: &StringRecord) -> Result<(), Stop<CertFault>>
-        requires text { is_text (fields_of row.now) ≡ true }
-        requires awaited { self.old.awaited ≡ Awaited.Format }
-        ensures { (e : Instance) → Took e (taken_so_far self.old) (taken_so_far self.new) (fields_of row.now) result }
+    fn take_format(&mut self, row: &StringRecord) -> Result<(), CertFault>
+        ensures head { EndsAs (refutation_head Awaited.Format (self.old).cover (fields_of row.now)) result (refutation_had self.new).0 }
+        ensures rows { (self.new).rows ≡ (self.old).rows }
     {
         if !is_pair(row, "pb-refutation", "1") {
-            return Err(Stop::Fault(CertFault::BadHead));
+            return Err(CertFault::BadHead);
         }
         self.awaited = Awaited::Cover;
         Ok(())
     }
 
     // Takes the record that states the weight of Cover.
-    fn take_cover(&mut self, row: &StringRecord) -> Result<(), Stop<CertFault>>
-        requires text { is_text (fields_of row.now) ≡ true }
-        requires awaited { self.old.awaited ≡ Awaited.Cover }
-        ensures { (e : Instance) → Took e (taken_so_far self.old) (taken_so_far self.new) (fields_of row.now) result }
+    fn take_cover(&mut self, row: &StringRecord) -> Result<(), CertFault>
+        ensures head { EndsAs (refutation_head Awaited.Cover (self.old).cover (fields_of row.now)) result (refutation_had self.new).0 }
+        ensures rows { (self.new).rows ≡ (self.old).rows }
     {
-        match head_number(row, "cover", 0, MOST_WEIGHT) {
-            Ok(weight) => {
-                self.cover = weight as u64;
-                self.awaited = Awaited::Columns;
-                Ok(())
-            }
-            Err(fault) => Err(Stop::Fault(fault)),
-        }
+        let weight = head_number(row, "cover", 0, MOST_WEIGHT)?;
+        self.cover = weight as u64;
+        self.awaited = Awaited::Columns;
+        Ok(())
     }
 
     // Takes the record that names the columns.
-    fn take_columns(&mut self, row: &StringRecord) -> Result<(), Stop<CertFault>>
-        requires text { is_text (fields_of row.now) ≡ true }
-        requires awaited { self.old.awaited ≡ Awaited.Columns }
-        ensures { (e : Instance) → Took e (taken_so_far self.old) (taken_so_far self.new) (fields_of row.now) result }
+    fn take_columns(&mut self, row: &StringRecord) -> Result<(), CertFault>
+        ensures head { EndsAs (refutation_head Awaited.Columns (self.old).cover (fields_of row.now)) result (refutation_had self.new).0 }
+        ensures rows { (self.new).rows ≡ (self.old).rows }
     {
         if !is_triple(row, "role", "project", "weight") {
-            return Err(Stop::Fault(CertFault::BadHead));
+            return Err(CertFault::BadHead);
         }
         self.awaited = Awaited::Row;
         Ok(())
     }
 
-    // Takes a row.
-    fn take_row(&mut self, election: &Election, row: &StringRecord) -> Result<(), Stop<CertFault>>
-        requires text { is_text (fields_of row.now) ≡ true }
-        requires awaited { self.old.awaited ≡ Awaited.Row }
-        ensures { Took election.now (taken_so_far self.old) (taken_so_far self.new) (fields_of row.now) result }
-    {
-        match self.add_row(election, row) {
-            Ok(()) => Ok(()),
-            Err(fault) => Err(Stop::Fault(fault)),
-        }
-    }
-
     // Adds what a row states.
     fn add_row(&mut self, election: &Election, row: &StringRecord) -> Result<(), CertFault>
         ensures rows { EndsAs (after_weight_row election.now self.old.rows.items (fields_of row.now)) result self.new.rows.items }
-        ensures awaited { self.new.awaited ≡ self.old.awaited }
-        ensures cover { self.new.cover ≡ self.old.cover }
+        ensures head { (refutation_had self.new).0 ≡ (refutation_had self.old).0 }
     {
         let weighting = weighting_in(row)?;
         let project = election
@@ -151,21 +143,22 @@ fn give(rows: &mut [Option<Weighting>], project: u32, row: Weighting) -> bool
 }
 
 impl Draft<Election> for RefutationDraft {
-    ghost use Rattle.pb_certificate.specs.Faults.{refutation_form};
-    ghost use Rattle.pb_certificate.specs.Inside.Refutations.{RefutationTaken, taken_so_far};
+    ghost use Rattle.pb_records.specs.Inside.Headed.{HasTaken};
+    ghost use Rattle.pb_records.specs.Headed.{headed_form};
+    ghost use Rattle.pb_certificate.specs.Inside.Refutations.{refutation_had};
+    ghost use Rattle.pb_certificate.specs.Refutations.Kind.{refutation_kind};
+    ghost use Rattle.pb_certificate.specs.Refutations.Text.{stated_by};
 
     type Fault = CertFault;
 
-    ghost form = { refutation_form };
+    ghost form = { λ e. headed_form (refutation_kind e) };
 
-    ghost HasTaken = { λ e d. RefutationTaken e (taken_so_far d) };
+    ghost HasTaken = { λ e d. HasTaken (refutation_kind e) (stated_by e) (refutation_had d) };
 
     fn take(&mut self, election: &Election, row: &StringRecord) -> Result<(), Stop<CertFault>> {
-        match self.awaited {
-            Awaited::Format => self.take_format(row),
-            Awaited::Cover => self.take_cover(row),
-            Awaited::Columns => self.take_columns(row),
-            Awaited::Row => self.take_row(election, row),
+        match self.take_record(election, row) {
+            Ok(()) => Ok(()),
+            Err(fault) => Err(Stop::Fault(fault)),
         }
     }
 

@@ -3,7 +3,7 @@ ghost use Rattle.std.specs.Prelude.{◌≡◌, ◌≤◌, IfOk};
 ghost use Rattle.csv.specs.Records.{fields_of};
 ghost use Rattle.pb_certificate.specs.Refutations.{most_weight};
 ghost use Rattle.pb_certificate.specs.Refutations.Text as text;
-ghost use Rattle.pb_certificate.specs.Inside.Refutations as spec;
+ghost use Rattle.pb_certificate.specs.Refutations.Kind as spec;
 
 use crate::CertFault;
 use crate::fields::{whole_within, width};

@@ -1,10 +1,9 @@
 //! A violation certificate, as far as it has been read.
-ghost use Rattle.std.specs.Prelude.{◌≡◌, [], true, IfOk};
+ghost use Rattle.std.specs.Prelude.{◌≡◌, [], IfOk};
 ghost use Rattle.csv.specs.Records.{fields_of};
-ghost use Rattle.pb_election.specs.Instance.{Instance};
-ghost use Rattle.pb_records.specs.Cells.{is_text};
-ghost use Rattle.pb_certificate.specs.Inside.Marks.{EndsAs};
-ghost use Rattle.pb_certificate.specs.Inside.Violations.{Took, ViolationTaken, after_violation_row, taken_so_far};
+ghost use Rattle.pb_records.specs.Inside.Headed.{EndsAs, HasTaken, Steps};
+ghost use Rattle.pb_certificate.specs.Inside.Violations.{after_violation_row, both_marks, violation_had};
+ghost use Rattle.pb_certificate.specs.Violations.Kind.{violation_head, violation_kind};
 
 use crate::fields::{is_pair, width};
 use crate::marks::{mark_project, mark_voter};
@@ -40,7 +39,7 @@ pub struct ViolationDraft {
 impl ViolationDraft {
     /// Nothing has been read.
     pub fn new(alloc: Global, election: &Election) -> Result<ViolationDraft, AllocError>
-        ensures { IfOk result (λ d. ViolationTaken election.now (taken_so_far d) []) }
+        ensures { IfOk result (λ d. HasTaken (violation_kind election.now) (both_marks election.now) (violation_had d) []) }
     {
         let group = vec![in alloc; false; election.voters() as usize]?;
         let demand = vec![in alloc; false; election.projects() as usize]?;
@@ -52,11 +51,21 @@ impl ViolationDraft {
         })
     }
 
+    // Takes one more record, or tells its fault.
+    fn take_record(&mut self, election: &Election, row: &StringRecord) -> Result<(), CertFault>
+        ensures { Steps (violation_kind election.now) (both_marks election.now) (violation_had self.old) (violation_had self.new) (fields_of row.now) result }
+    {
+        match self.awaited {
+            Awaited::Format => self.take_format(row),
+            Awaited::Satisfaction => self.take_satisfaction(row),
+            Awaited::Row => self.mark_row(election, row),
+        }
+    }
+
     // Takes the record that names the format. Version 1 counts.
-    fn take_format(&mut self, row: &StringRecord) -> Result<(), Stop<CertFault>>
-        requires text { is_text (fields_of row.now) ≡ true }
-        requires awaited { self.old.awaited ≡ Awaited.Format }
-        ensures { (e : Instance) → Took e (taken_so_far self.old) (taken_so_far self.new) (fields_of row.now) result }
+    fn take_format(&mut self, row: &StringRecord) -> Result<(), CertFault>
+        ensures head { EndsAs (violation_head Awaited.Format (self.old).measure (fields_of row.now)) result (violation_had self.new).0 }
+        ensures marks { (violation_had self.new).1 ≡ (violation_had self.old).1 }
     {
         if is_pair(row, "pb-violation", "1") {
             self.awaited = Awaited::Row;
@@ -66,14 +75,13 @@ impl ViolationDraft {
             self.awaited = Awaited::Satisfaction;
             return Ok(());
         }
-        Err(Stop::Fault(CertFault::BadHead))
+        Err(CertFault::BadHead)
     }
 
     // Takes the record that names the measure.
-    fn take_satisfaction(&mut self, row: &StringRecord) -> Result<(), Stop<CertFault>>
-        requires text { is_text (fields_of row.now) ≡ true }
-        requires awaited { self.old.awaited ≡ Awaited.Satisfaction }
-        ensures { (e : Instance) → Took e (taken_so_far self.old) (taken_so_far self.new) (fields_of row.now) result }
+    fn take_satisfaction(&mut self, row: &StringRecord) -> Result<(), CertFault>
+        ensures head { EndsAs (violation_head Awaited.Satisfaction (self.old).measure (fields_of row.now)) result (violation_had self.new).0 }
+        ensures marks { (violation_had self.new).1 ≡ (violation_had self.old).1 }
     {
         if is_pair(row, "satisfaction", "count") {
             self.measure = Measure::ByCount;
@@ -85,26 +93,13 @@ impl ViolationDraft {
             self.awaited = Awaited::Row;
             return Ok(());
         }
-        Err(Stop::Fault(CertFault::BadHead))
-    }
-
-    // Takes a row.
-    fn take_row(&mut self, election: &Election, row: &StringRecord) -> Result<(), Stop<CertFault>>
-        requires text { is_text (fields_of row.now) ≡ true }
-        requires awaited { self.old.awaited ≡ Awaited.Row }
-        ensures { Took election.now (taken_so_far self.old) (taken_so_far self.new) (fields_of row.now) result }
-    {
-        match self.mark_row(election, row) {
-            Ok(()) => Ok(()),
-            Err(fault) => Err(Stop::Fault(fault)),
-        }
+        Err(CertFault::BadHead)
     }
 
     // Marks what a row names.
     fn mark_row(&mut self, election: &Election, row: &StringRecord) -> Result<(), CertFault>
-        ensures marks { EndsAs (after_violation_row election.now self.old.group.items self.old.demand.items (fields_of row.now)) result (self.new.group.items, self.new.demand.items) }
-        ensures awaited { self.new.awaited ≡ self.old.awaited }
-        ensures measure { self.new.measure ≡ self.old.measure }
+        ensures marks { EndsAs (after_violation_row election.now (violation_had self.old).1 (fields_of row.now)) result (violation_had self.new).1 }
+        ensures head { (violation_had self.new).0 ≡ (violation_had self.old).0 }
     {
         if width(row) != 2 {
             return Err(CertFault::BadRow);
@@ -121,20 +116,21 @@ impl ViolationDraft {
 }
 
 impl Draft<Election> for ViolationDraft {
-    ghost use Rattle.pb_certificate.specs.Faults.{violation_form};
-    ghost use Rattle.pb_certificate.specs.Inside.Violations.{ViolationTaken, taken_so_far};
+    ghost use Rattle.pb_records.specs.Inside.Headed.{HasTaken};
+    ghost use Rattle.pb_records.specs.Headed.{headed_form};
+    ghost use Rattle.pb_certificate.specs.Inside.Violations.{both_marks, violation_had};
+    ghost use Rattle.pb_certificate.specs.Violations.Kind.{violation_kind};
 
     type Fault = CertFault;
 
-    ghost form = { violation_form };
+    ghost form = { λ e. headed_form (violation_kind e) };
 
-    ghost HasTaken = { λ e d. ViolationTaken e (taken_so_far d) };
+    ghost HasTaken = { λ e d. HasTaken (violation_kind e) (both_marks e) (violation_had d) };
 
     fn take(&mut self, election: &Election, row: &StringRecord) -> Result<(), Stop<CertFault>> {
-        match self.awaited {
-            Awaited::Format => self.take_format(row),
-            Awaited::Satisfaction => self.take_satisfaction(row),
-            Awaited::Row => self.take_row(election, row),
+        match self.take_record(election, row) {
+            Ok(()) => Ok(()),
+            Err(fault) => Err(Stop::Fault(fault)),
         }
     }
 

@@ -31,8 +31,8 @@ pub(crate) fn budgets(
     (counted, taken)
 }
 
-// What the unfunded projects of a ballot weigh together.
-fn taken_left(outcome: &Outcome, refutation: &Refutation, ballot: &[u32]) -> u64
+/// What the unfunded projects of a ballot weigh together.
+pub(super) fn taken_left(outcome: &Outcome, refutation: &Refutation, ballot: &[u32]) -> u64
     requires ballot { IsSet 1 (length (outcome.now).marks) ballot.now }
     requires few { length ballot.now ≤ most_projects }
     ensures value { result ≡ sum_by (weight refutation.now) (filter (λ j. not (has (outcome.now).marks j)) ballot.now) }
@@ -47,8 +47,13 @@ fn taken_left(outcome: &Outcome, refutation: &Refutation, ballot: &[u32]) -> u64
     total
 }
 
-// So often a payment counts at the most, over the funded projects of a ballot, where its unfunded ones weigh so much.
-fn most_counted(outcome: &Outcome, refutation: &Refutation, ballot: &[u32], left: u64) -> u64
+/// So often a payment counts at the most, over the funded projects of a ballot, where its unfunded ones weigh so much.
+pub(super) fn most_counted(
+    outcome: &Outcome,
+    refutation: &Refutation,
+    ballot: &[u32],
+    left: u64,
+) -> u64
     requires ballot { IsSet 1 (length (outcome.now).marks) ballot.now }
     requires few { left ≤ most_projects * most_weight }
     ensures value { result ≡ largest_by (λ j. counted_in (row_of refutation.now j) left) (filter (has (outcome.now).marks) ballot.now) }
@@ -63,8 +68,8 @@ fn most_counted(outcome: &Outcome, refutation: &Refutation, ballot: &[u32], left
     most
 }
 
-// So often a payment for a funded project counts.
-fn counted(refutation: &Refutation, j: u32, left: u64) -> u64
+/// So often a payment for a funded project counts.
+pub(super) fn counted(refutation: &Refutation, j: u32, left: u64) -> u64
     requires project { 1 ≤ j }
     requires few { left ≤ most_projects * most_weight }
     ensures value { result ≡ counted_in (row_of refutation.now j) left }

@@ -8,20 +8,22 @@ ghost use Rattle.pb_cohesion.specs.Refutations.{is_misplaced};
 
 use super::budgets::budgets;
 use super::costs::costs;
+use super::stable_budgets::stable_budgets;
 use crate::{MisplacedRows, RefutationFindings};
 use pb_certificate::{Refutation, Role};
 use pb_election::{Election, Outcome};
 
-/// What each test of a refutation comes to by the weights of a certificate, in one pass over the ballots. The outcome
-/// and the certificate are to fit the election. Takes no memory.
+/// What each test of a refutation comes to by the weights of a certificate, for stable prices too where these are asked
+/// about. The outcome and the certificate are to fit the election. Takes no memory.
 pub fn refutation_findings(
     election: &Election,
     outcome: &Outcome,
     refutation: &Refutation,
+    stable: bool,
 ) -> RefutationFindings
     requires outcome { OutcomeFits outcome.now election.now }
     requires refutation { WeightsFit refutation.now election.now }
-    ensures { result ≡ spec.refutation_findings election.now (outcome.now).marks refutation.now }
+    ensures { result ≡ spec.refutation_findings stable election.now (outcome.now).marks refutation.now }
 {
     let (counted, taken) = budgets(election, outcome, refutation);
     let (at_least, at_most) = costs(election, outcome, refutation);
@@ -29,6 +31,7 @@ pub fn refutation_findings(
         misplaced: misplaced_rows(election, outcome, refutation),
         cover: refutation.cover(),
         counted,
+        counted_stable: stable.then(|| stable_budgets(election, outcome, refutation)),
         taken,
         at_least,
         at_most,

@@ -4,7 +4,7 @@ use pb_certificate::{Measure, Refutation, Violation};
 use pb_cohesion::{
     Cost, Count, MisplacedRows, MissingApprovals, RefutationFindings, RefutationVerdict,
     Satisfaction, SatisfiedMembers, ViolationFailure, ViolationFindings, ViolationVerdict,
-    check_refutation, check_violation, refutation_findings, violation_findings,
+    check_refutation, check_violation, cost_of_funded, refutation_findings, violation_findings,
 };
 use pb_election::{Election, Outcome};
 use pb_samples::files::{DEAR_ELECTION, ELECTION, REFUTATION, SMALL_SHARE_ELECTION, VIOLATION};
@@ -92,6 +92,15 @@ fn project_is_worth_one_or_its_cost(rt: HostRuntime) -> Result<(), Fail> {
     Ok(())
 }
 
+/// The park for 6 and the library for 4 are funded, and the pool for 9 isn't.
+#[test]
+fn what_is_funded_is_added_up(rt: HostRuntime) -> Result<(), Fail> {
+    let election = Election::read(rt.alloc(), ELECTION.as_bytes())?;
+    let outcome = Outcome::selected(rt.alloc(), &election)?;
+    assert_eq!(rt; cost_of_funded(&election, &outcome), 10_000_000);
+    Ok(())
+}
+
 /// Weights for three projects are to refute prices by these sums.
 fn expect_refuted(rt: &impl Abort, election: &Election, outcome: &Outcome, weights: &Refutation) {
     assert!(rt; outcome.fits(election) && weights.fits(election));
@@ -102,12 +111,16 @@ fn expect_refuted(rt: &impl Abort, election: &Election, outcome: &Outcome, weigh
         },
         cover: 0,
         counted: 2,
+        counted_stable: None,
         taken: 2,
         at_least: 12_000_000,
         at_most: 11_000_000,
     };
-    assert_eq!(rt; refutation_findings(election, outcome, weights), findings);
-    let verdict = check_refutation(election, outcome, weights);
+    assert_eq!(rt;
+        refutation_findings(election, outcome, weights, false),
+        findings
+    );
+    let verdict = check_refutation(election, outcome, weights, false);
     assert_eq!(rt; verdict, RefutationVerdict::Unpriceable);
 }
 

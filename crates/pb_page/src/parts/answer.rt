@@ -1,11 +1,13 @@
 //! The answer box.
 use pb_case::{Case, Fillings};
 use pb_figures::{CertificateFigures, Figure};
-use pb_group_parts::{push_failed_test_of_group, push_failed_test_of_weights};
+use pb_group_parts::{
+    push_failed_test_of_group, push_failed_test_of_weights, push_more_of_groups, push_why_of_groups,
+};
 use pb_markup::{Page, Tag};
 use pb_parts::{push_asked, push_groups, says_little};
 use pb_price_parts::push_failed_condition;
-use pb_words::{Headline, Sentence};
+use pb_words::{Headline, Sentence, StableWeights};
 
 /// Begins the box, up to the answer in a sentence.
 pub(crate) fn open_answer(page: &mut Page, case: &Case<'_>) {
@@ -17,6 +19,7 @@ pub(crate) fn close_answer(page: &mut Page, case: &Case<'_>) {
     push_reason(page, case);
     push_groups(page, case);
     push_caution(page, case);
+    push_of_groups(page, case);
     push_asked(page, case);
     page.close();
 }
@@ -25,10 +28,15 @@ pub(crate) fn close_answer(page: &mut Page, case: &Case<'_>) {
 // neither of these is no news.
 fn class_of(headline: Headline) -> &'static str {
     match headline {
-        Headline::Supported | Headline::SupportedStable => "answer",
-        Headline::NotSupported | Headline::Violation => "answer bad",
-        Headline::Unpriceable | Headline::UnpriceableUnderCover => "answer bad",
-        Headline::NoViolation | Headline::NotRefuted => "answer neither",
+        Headline::Supported | Headline::SupportedStable | Headline::NoGroupFallsShort => "answer",
+        Headline::NotSupported | Headline::Violation | Headline::GroupFallsShort => "answer bad",
+        Headline::Unpriceable
+        | Headline::UnpriceableUnderCover
+        | Headline::UnpriceableStable
+        | Headline::UnpriceableStableUnderCover => "answer bad",
+        Headline::NoViolation | Headline::NotRefuted | Headline::NotRefutedStable => {
+            "answer neither"
+        }
     }
 }
 
@@ -44,9 +52,22 @@ fn push_reason(page: &mut Page, case: &Case<'_>) {
             case,
             Sentence::WhyUnpriceableUnderCover,
         ),
-        Headline::NotSupported | Headline::NoViolation | Headline::NotRefuted => push_failure(
-            page, case,
+        Headline::UnpriceableStable => push_plain(
+            page,
+            case,
+            Sentence::OfStableWeights(StableWeights::WhyUnpriceable),
         ),
+        Headline::UnpriceableStableUnderCover => push_plain(
+            page,
+            case,
+            Sentence::OfStableWeights(StableWeights::WhyUnpriceableUnderCover),
+        ),
+        Headline::NotSupported
+        | Headline::NoViolation
+        | Headline::NotRefuted
+        | Headline::NotRefutedStable
+        | Headline::NoGroupFallsShort
+        | Headline::GroupFallsShort => push_found(page, case),
     }
     page.close();
 }
@@ -71,10 +92,19 @@ fn push_plain(page: &mut Page, case: &Case<'_>, sentence: Sentence) {
     case.say(page, sentence, &Fillings::none(case.words.alloc));
 }
 
-fn push_failure(page: &mut Page, case: &Case<'_>) {
+// Adds more of groups that fall short, where the page is about them.
+fn push_of_groups(page: &mut Page, case: &Case<'_>) {
+    if let CertificateFigures::Groups(figures) = &case.told.found {
+        push_more_of_groups(page, case, figures);
+    }
+}
+
+// Adds what fails first, or why groups fall short or don't.
+fn push_found(page: &mut Page, case: &Case<'_>) {
     match &case.told.found {
         CertificateFigures::Prices(figures) => push_failed_condition(page, case, figures),
         CertificateFigures::Violation(figures) => push_failed_test_of_group(page, case, figures),
         CertificateFigures::Refutation(figures) => push_failed_test_of_weights(page, case, figures),
+        CertificateFigures::Groups(figures) => push_why_of_groups(page, case, figures),
     }
 }

@@ -5,6 +5,7 @@ ghost use Rattle.pb_page.specs.Taken as spec;
 ghost use Rattle.pb_page.specs.Taken.{sums_shown};
 
 use pb_case::{Case, Files, Fillings, InputFile, push_label};
+use pb_certificate::Measure;
 use pb_figures::CertificateFigures;
 use pb_markup::{Page, Tag};
 use pb_words::{Sentence, VERSION};
@@ -21,8 +22,8 @@ pub(crate) fn push_files(page: &mut Page, case: &Case<'_>)
     page.element(Tag::H2, case.words.say(Sentence::Files));
     page.open_class(Tag::Dl, "files");
     push_file(page, case, Sentence::ElectionFile, &case.files.election);
-    push_outcome(page, case, &case.files.outcome);
-    push_file(
+    push_given(page, case, Sentence::OutcomeFile, &case.files.outcome);
+    push_given(
         page,
         case,
         Sentence::CertificateFile,
@@ -42,12 +43,12 @@ pub(crate) fn push_behind_line(page: &mut Page, case: &Case<'_>) {
     page.close();
 }
 
-// Adds the outcome file, where one is given.
-fn push_outcome(page: &mut Page, case: &Case<'_>, outcome: &Option<InputFile>)
-    ensures { (texts : List (List ℕ)) → IfSome page.old (HasInOrder texts) → IfSome page.new (HasInOrder (texts ++ map spec.sum_of (option_to_list outcome.now))) }
+// Adds a file, where one is given.
+fn push_given(page: &mut Page, case: &Case<'_>, role: Sentence, file: &Option<InputFile>)
+    ensures { (texts : List (List ℕ)) → IfSome page.old (HasInOrder texts) → IfSome page.new (HasInOrder (texts ++ map spec.sum_of (option_to_list file.now))) }
 {
-    match outcome {
-        Some(outcome) => push_file(page, case, Sentence::OutcomeFile, outcome),
+    match file {
+        Some(file) => push_file(page, case, role, file),
         None => {}
     }
 }
@@ -99,19 +100,19 @@ fn checks(case: &Case<'_>) -> Page {
 
 // Whether the files can be named in a command that gives the same answer. Their names stand there whole or not at all.
 fn fits_a_command(files: &Files) -> bool {
-    let (election, certificate) = (&files.election, &files.certificate);
-    if !is_word(election)
-        || !is_word(certificate)
-        || base_name(election) == base_name(certificate)
-    {
-        return false;
-    }
-    match &files.outcome {
-        Some(outcome) => {
-            is_word(outcome)
-                && base_name(outcome) != base_name(election)
-                && base_name(outcome) != base_name(certificate)
+    is_word(&files.election)
+        && is_other_word(&files.outcome, &files.election)
+        && is_other_word(&files.certificate, &files.election)
+        && match &files.outcome {
+            Some(outcome) => is_other_word(&files.certificate, outcome),
+            None => true,
         }
+}
+
+// Whether a file, where one is given, can be a word of a command, and isn't named as another one.
+fn is_other_word(file: &Option<InputFile>, other: &InputFile) -> bool {
+    match file {
+        Some(file) => is_word(file) && base_name(file) != base_name(other),
         None => true,
     }
 }
@@ -139,8 +140,10 @@ fn push_command(page: &mut Page, case: &Case<'_>) {
     page.open(Tag::Code);
     page.text("pbaudit explain ");
     push_word(alloc, page, &case.files.election);
-    page.text(" ");
-    push_word(alloc, page, &case.files.certificate);
+    if let Some(certificate) = &case.files.certificate {
+        page.text(" ");
+        push_word(alloc, page, certificate);
+    }
     if let Some(outcome) = &case.files.outcome {
         page.text(" --outcome ");
         push_word(alloc, page, outcome);
@@ -176,12 +179,19 @@ fn options_by_hand(case: &Case<'_>) -> Result<String, AllocError> {
 // The options that ask for what was asked, each behind a blank.
 fn options(case: &Case<'_>) -> Result<String, AllocError> {
     let mut options = String::new(case.words.alloc);
-    if !matches!(case.told.found, CertificateFigures::Prices(_)) {
+    if let CertificateFigures::Groups(figures) = &case.told.found {
+        options.push_str(" --groups")?;
+        if figures.measure == Measure::ByCount {
+            options.push_str(" --satisfaction count")?;
+        }
         return Ok(options);
     }
     let mode = case.told.mode;
-    if mode.stable {
+    if mode.stable && !matches!(case.told.found, CertificateFigures::Violation(_)) {
         options.push_str(" --stable")?;
+    }
+    if !matches!(case.told.found, CertificateFigures::Prices(_)) {
+        return Ok(options);
     }
     if !mode.exhaustive {
         options.push_str(" --no-exhaustive")?;

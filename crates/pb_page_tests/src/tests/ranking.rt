@@ -1,4 +1,6 @@
 //! The orders of the tables.
+use pb_cohesion::GroupFigures;
+use pb_figures::short_first;
 use pb_page::{closest_first, wrongly_paid_first};
 use pb_price::ProjectMargins;
 use std::test::Fail;
@@ -65,5 +67,38 @@ fn nothing_to_rank(rt: HostRuntime) -> Result<(), Fail> {
     let projects = [project(true, 5, 5, 0, 0)];
     assert!(rt; closest_first(rt.alloc(), &projects, false)?.is_empty());
     assert!(rt; wrongly_paid_first(rt.alloc(), &[])?.is_empty());
+    Ok(())
+}
+
+fn group(project: u32, voters: u32, falls_short: bool) -> GroupFigures {
+    GroupFigures {
+        project,
+        supporters: 9,
+        voters,
+        most: 0,
+        need: 1,
+        falls_short,
+    }
+}
+
+#[test]
+fn largest_group_that_falls_short_comes_first(rt: HostRuntime) -> Result<(), Fail> {
+    let groups = [
+        group(2, 9, false),
+        group(3, 1, true),
+        group(5, 4, true),
+        group(6, 7, false),
+        group(8, 4, true),
+        group(9, 1_000_000, true),
+    ];
+    let order = short_first(rt.alloc(), &groups)?;
+    let mut rows = Vec::new(rt.alloc());
+    for one in order.iter() {
+        rows.push(one.1)?;
+    }
+    assert!(rt;
+        rows.as_slice() == [6, 3, 5, 2, 1, 4].as_slice(),
+        "{rows:?}"
+    );
     Ok(())
 }

@@ -20,7 +20,15 @@ fn reported(
 ) -> Result<(String, FolderStatus), Fail> {
     let mut err = FakeWriter::new(alloc);
     let mut progress = Progress::new(&mut err, 2);
-    let report = report(alloc, files, folder, listing, Mode::PLAIN, &mut progress)?;
+    let report = report(
+        alloc,
+        files,
+        folder,
+        listing,
+        Mode::PLAIN,
+        false,
+        &mut progress,
+    )?;
     Ok((String::from_utf8(report.text)?, report.status))
 }
 

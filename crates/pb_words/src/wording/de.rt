@@ -1,5 +1,6 @@
 //! The sentences in German.
-use crate::sentence::{Plural, Sentence};
+use crate::sentence::{Plural, Sentence, StableWeights};
+use crate::wording::short_groups;
 
 /// What a sentence says.
 pub fn wording(sentence: Sentence) -> &'static str {
@@ -14,25 +15,25 @@ pub fn wording(sentence: Sentence) -> &'static str {
         Sentence::Currency => "Beträge in",
         Sentence::WhySupported =>
             "Die Kosten jedes geförderten Projekts sind genau gedeckt, und zwar von Abstimmenden, \
-             die dafür sind, aus gleich großen Budgets. Bei keinem anderen Projekt haben die \
-             Unterstützenden zusammen mehr übrig, als es kostet.",
+             die dafür gestimmt haben, aus gleich großen Budgets. Bei keinem anderen Projekt haben \
+             die Unterstützenden zusammen mehr übrig, als es kostet.",
         Sentence::WhyStable =>
             "Die Kosten jedes geförderten Projekts sind genau gedeckt, und zwar von Abstimmenden, \
-             die dafür sind, aus gleich großen Budgets. Bei keinem anderen Projekt könnten die \
-             Unterstützenden mehr bieten, als es kostet, auch nicht, wenn alle dafür auf ein \
-             gefördertes Projekt verzichten.",
+             die dafür gestimmt haben, aus gleich großen Budgets. Bei keinem anderen Projekt \
+             könnten die Unterstützenden mehr bieten, als es kostet, auch nicht, wenn alle dafür \
+             auf ein gefördertes Projekt verzichten.",
         Sentence::WhyViolation =>
             "Alle Mitglieder der Gruppe haben für die verlangten Projekte gestimmt, und der Anteil \
              der Gruppe am Gesamtbudget würde dafür reichen. Doch von den geförderten Projekten \
              bekommt jedes Mitglied weniger, als die verlangten wert sind.",
         Sentence::WhyUnpriceable =>
             "Wie groß das gleiche Budget aller Abstimmenden auch wäre und wie sie sich die Kosten \
-             der Projekte, für die sie sind, auch teilten: Eine Bedingung an die Preise wäre \
-             verletzt, in der einfachen Form wie in der stabilen. Die Gewichte dieses Zertifikats \
-             beweisen es.",
+             der Projekte, für die sie gestimmt haben, auch teilten: Eine Bedingung an die Preise \
+             wäre verletzt, in der einfachen Form wie in der stabilen. Die Gewichte dieses \
+             Zertifikats beweisen es.",
         Sentence::WhyUnpriceableUnderCover =>
-            "Wie sich die Abstimmenden die Kosten der Projekte, für die sie sind, auch teilten: \
-             Eine Bedingung an die Preise wäre verletzt, in der einfachen Form wie in der \
+            "Wie sich die Abstimmenden die Kosten der Projekte, für die sie gestimmt haben, auch \
+             teilten: Eine Bedingung an die Preise wäre verletzt, in der einfachen Form wie in der \
              stabilen, wenn ihre gleich großen Budgets zusammen mehr als das Gesamtbudget ergeben. \
              Die Gewichte dieses Zertifikats beweisen es. Über kleinere Budgets sagen sie nichts.",
         Sentence::SaysLittle =>
@@ -147,7 +148,8 @@ pub fn wording(sentence: Sentence) -> &'static str {
         Sentence::OrderDearest => "teuerste zuerst",
         Sentence::OrderSupporters => "meiste Unterstützende zuerst",
         Sentence::OnlyClosest =>
-            "Hier stehen nur die {count} knappsten Projekte, gleich welche Reihenfolge Sie wählen.",
+            "Hier stehen nur die {count} knappsten Projekte, unabhängig von der gewählten \
+             Reihenfolge.",
         Sentence::Project => "Projekt",
         Sentence::ProjectId => "Projekt {id}",
         Sentence::Cost => "Kosten",
@@ -240,8 +242,8 @@ pub fn wording(sentence: Sentence) -> &'static str {
             "Die Budgets aller Abstimmenden ergeben mehr als das Gesamtbudget, so dass jede Gruppe \
              mehr ausgeben kann als ihren Anteil daran.",
         Sentence::AsksC1 =>
-            "Abstimmende zahlen nur für Projekte, für die sie sind. Niemandes Geld darf für etwas \
-             verwendet werden, was die Person nicht wollte.",
+            "Abstimmende zahlen nur für Projekte, für die sie gestimmt haben. Niemandes Geld darf \
+             für etwas verwendet werden, was die Person nicht wollte.",
         Sentence::AsksC2 =>
             "Niemand gibt mehr aus als das Budget, das für alle gleich ist. Jede Person zählt so \
              viel wie jede andere.",
@@ -361,6 +363,7 @@ pub fn wording(sentence: Sentence) -> &'static str {
         Sentence::BrokenU3 =>
             "Nach diesen Gewichten ist mindestens {least} zu zahlen, und {most} kann gezahlt \
              werden: Das ist kein Widerspruch.",
+        Sentence::OfStableWeights(sentence) => of_stable_weights(sentence),
         Sentence::NotSaid => "Was diese Seite nicht beantwortet",
         Sentence::NotSaidOthers =>
             "Ob andere Projekte ebenso gerecht gewesen wären. Oft lassen sich mehrere Ergebnisse \
@@ -394,20 +397,21 @@ pub fn wording(sentence: Sentence) -> &'static str {
         Sentence::Claim => "Was Sie öffentlich sagen können",
         Sentence::ClaimSupported =>
             "Es gibt Preise, die dieses Ergebnis stützen: Die Kosten jedes geförderten Projekts \
-             sind von Abstimmenden, die dafür sind, aus gleich großen Budgets genau gedeckt, und \
-             keine Gruppe von Unterstützenden hat mehr übrig, als ein anderes Projekt kostet.",
+             sind von Abstimmenden, die dafür gestimmt haben, aus gleich großen Budgets genau \
+             gedeckt, und keine Gruppe von Unterstützenden hat mehr übrig, als ein anderes Projekt \
+             kostet.",
         Sentence::ClaimStable =>
             "Es gibt stabile Preise, die dieses Ergebnis stützen: Die Kosten jedes geförderten \
-             Projekts sind von Abstimmenden, die dafür sind, aus gleich großen Budgets genau \
-             gedeckt, und keine Gruppe würde lieber für ein anderes Projekt zahlen.",
+             Projekts sind von Abstimmenden, die dafür gestimmt haben, aus gleich großen Budgets \
+             genau gedeckt, und keine Gruppe würde lieber für ein anderes Projekt zahlen.",
         Sentence::ClaimNotSupported =>
             "Diese Zahlungen stützen das Ergebnis nicht. Mehr lässt sich nicht sagen: Andere \
              können es stützen.",
         Sentence::ClaimPlain =>
             "Diese Preise stützen dieses Ergebnis in der einfachen Form, aber nicht in der \
              stabilen: Die Kosten jedes geförderten Projekts sind von Abstimmenden, die dafür \
-             sind, aus gleich großen Budgets genau gedeckt, und keine Gruppe von Unterstützenden \
-             hat mehr übrig, als ein anderes Projekt kostet.",
+             gestimmt haben, aus gleich großen Budgets genau gedeckt, und keine Gruppe von \
+             Unterstützenden hat mehr übrig, als ein anderes Projekt kostet.",
         Sentence::ClaimOutcome =>
             "Das Ergebnis verletzt eine Bedingung, unabhängig von den Zahlungen.",
         Sentence::ClaimViolation =>
@@ -424,9 +428,9 @@ pub fn wording(sentence: Sentence) -> &'static str {
         Sentence::ClaimNoViolation =>
             "Dieses Zertifikat zeigt keine Verletzung. Es zeigt nicht, dass es keine gibt.",
         Sentence::ClaimUnpriceable =>
-            "Keine Preise stützen dieses Ergebnis, gleich welches gleich große Budget die \
-             Abstimmenden bekommen und wie sie sich die Kosten der Projekte teilen, für die sie \
-             sind.",
+            "Keine Preise stützen dieses Ergebnis, unabhängig davon, wie groß das gleiche Budget \
+             der Abstimmenden ist und wie sie sich die Kosten der Projekte teilen, für die sie \
+             gestimmt haben.",
         Sentence::ClaimUnpriceableUnderCover =>
             "Keine Preise stützen dieses Ergebnis, wenn die gleich großen Budgets der Abstimmenden \
              zusammen mehr als das Gesamtbudget ergeben.",
@@ -478,5 +482,70 @@ pub fn wording(sentence: Sentence) -> &'static str {
             "Wer diese Seite ändert, kann sie alles sagen lassen. Trauen Sie den Dateien und dem \
              Programm, nicht der Seite.",
         Sentence::MadeBy => "Erstellt von pbaudit {version}.",
+        Sentence::OfShortGroups(sentence) => short_groups::de::wording(sentence),
+    }
+}
+
+// What a sentence on weights says where it speaks of stable prices.
+fn of_stable_weights(sentence: StableWeights) -> &'static str {
+    match sentence {
+        StableWeights::WhyUnpriceable =>
+            "In der stabilen Form kann jede Person für ein anderes Projekt bieten, was sie übrig \
+             hat, oder ihre größte Zahlung für ein gefördertes, je nachdem, was mehr ist. Wie groß \
+             das gleiche Budget aller Abstimmenden auch wäre und wie sie sich die Kosten der \
+             Projekte, für die sie gestimmt haben, auch teilten: Eine Bedingung an solche Preise \
+             wäre verletzt. Die Gewichte dieses Zertifikats beweisen es.",
+        StableWeights::WhyUnpriceableUnderCover =>
+            "In der stabilen Form kann jede Person für ein anderes Projekt bieten, was sie übrig \
+             hat, oder ihre größte Zahlung für ein gefördertes, je nachdem, was mehr ist. Wie sich \
+             die Abstimmenden die Kosten der Projekte, für die sie gestimmt haben, auch teilten: \
+             Eine Bedingung an solche Preise wäre verletzt, wenn ihre gleich großen Budgets \
+             zusammen mehr als das Gesamtbudget ergeben. Die Gewichte dieses Zertifikats beweisen \
+             es. Über kleinere Budgets sagen sie nichts.",
+        StableWeights::Asked =>
+            "Geprüft wurde: Beweisen die Gewichte, dass keine stabilen Preise dieses Ergebnis \
+             stützen?",
+        StableWeights::AskedUnderCover =>
+            "Geprüft wurde: Beweisen die Gewichte, dass keine stabilen Preise mit Budgets über dem \
+             Gesamtbudget dieses Ergebnis stützen?",
+        StableWeights::OfAllPrices =>
+            "Sie beweisen es für alle Preise, auch in der einfachen Form, die weniger verlangt.",
+        StableWeights::CountsOffer => "seine Unterstützenden können höchstens seine Kosten bieten",
+        StableWeights::AsksU1 =>
+            "Bei einem geförderten Projekt darf gezählt werden, was dafür gezahlt wird, bei einem \
+             anderen, was seine Unterstützenden bieten können.",
+        StableWeights::AsksU2 =>
+            "Das Budget einer Person darf so oft gezählt werden, wie bei den nicht geförderten \
+             Projekten, für die sie ist, gezählt wird, was sie bieten kann, und nicht öfter. Keine \
+             Zahlung ist größer als dieses Angebot, also gleichen Angebote einen Teil dessen aus, \
+             was Zahlungen zählen.",
+        StableWeights::BrokenU1Funded =>
+            "Projekt {project} ist gefördert, und seine Zeile zählt, was seine Unterstützenden \
+             bieten können.",
+        StableWeights::FoundU2 =>
+            "Abgesehen von dem, was Angebote ausgleichen, zählen die Zahlungen das Budget einer \
+             Person höchstens {counted} Mal, über alle Abstimmenden; was sie bieten können, zählt \
+             es {taken} Mal.",
+        StableWeights::BrokenU2 =>
+            "Auch abgesehen von dem, was Angebote ausgleichen, können die Zahlungen das Budget \
+             einer Person {counted} Mal zählen, über alle Abstimmenden; was sie bieten können, \
+             zählt es nur {taken} Mal.",
+        StableWeights::NotSaidPlain =>
+            "Ob es Preise gibt, die das Ergebnis in der einfachen Form stützen. Diese verlangt \
+             weniger, also kann es trotzdem welche geben.",
+        StableWeights::NotSaidWeights =>
+            "Ob es stabile Preise gibt, die das Ergebnis stützen. Dieses Nein gilt nur für diese \
+             Gewichte, und andere können es widerlegen.",
+        StableWeights::ClaimUnpriceable =>
+            "Keine stabilen Preise stützen dieses Ergebnis: Welches gleich große Budget die \
+             Abstimmenden auch bekommen und wie sie sich die Kosten der Projekte, für die sie \
+             gestimmt haben, auch teilen, immer würde eine Gruppe lieber für ein anderes Projekt \
+             zahlen.",
+        StableWeights::ClaimUnpriceableUnderCover =>
+            "Keine stabilen Preise stützen dieses Ergebnis, wenn die gleich großen Budgets der \
+             Abstimmenden zusammen mehr als das Gesamtbudget ergeben.",
+        StableWeights::ClaimNotRefuted =>
+            "Dieses Zertifikat beweist nicht, dass keine stabilen Preise das Ergebnis stützen. \
+             Mehr lässt sich nicht sagen.",
     }
 }

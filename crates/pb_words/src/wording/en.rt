@@ -1,5 +1,6 @@
 //! The sentences in English.
-use crate::sentence::{Plural, Sentence};
+use crate::sentence::{Plural, Sentence, StableWeights};
+use crate::wording::short_groups;
 
 /// What a sentence says.
 pub fn wording(sentence: Sentence) -> &'static str {
@@ -30,8 +31,8 @@ pub fn wording(sentence: Sentence) -> &'static str {
         Sentence::WhyUnpriceableUnderCover =>
             "However the voters shared the costs of the projects that they approve, a condition on \
              prices would fail, in the plain form and in the stable one, if their equal budgets \
-             come to more than the limit together. The weights of this certificate prove it. Of \
-             smaller budgets they say nothing.",
+             come to more than the limit together. The weights of this certificate prove it. They \
+             say nothing about smaller budgets.",
         Sentence::SaysLittle =>
             "But this yes says little: the budgets of all voters come to {budgets} together, which \
              is less than the limit of {limit}. So each group has less to spend than its share of \
@@ -136,7 +137,7 @@ pub fn wording(sentence: Sentence) -> &'static str {
         Sentence::OrderDearest => "dearest first",
         Sentence::OrderSupporters => "most supporters first",
         Sentence::OnlyClosest =>
-            "Only the {count} closest projects stand here, whichever order you choose.",
+            "Only the {count} closest projects are shown here, whichever order you choose.",
         Sentence::Project => "Project",
         Sentence::ProjectId => "project {id}",
         Sentence::Cost => "Cost",
@@ -253,7 +254,7 @@ pub fn wording(sentence: Sentence) -> &'static str {
             "Each member gets less from the funded projects than the demanded ones are worth. A \
              group in which one member gets as much or more was heard.",
         Sentence::AsksU1 =>
-            "Of a funded project it may be counted what is paid for it, and of another one what \
+            "For a funded project the weights may count what is paid for it; for any other, what \
              its supporters have left.",
         Sentence::AsksU2 =>
             "A voter’s budget may be counted as often as what it has left is counted, over the \
@@ -337,6 +338,7 @@ pub fn wording(sentence: Sentence) -> &'static str {
         Sentence::BrokenU3 =>
             "By these weights at least {least} is to be paid, and {most} can be: that is no \
              contradiction.",
+        Sentence::OfStableWeights(sentence) => of_stable_weights(sentence),
         Sentence::NotSaid => "What this doesn’t say",
         Sentence::NotSaidOthers =>
             "Whether other projects would have been as fair. Several outcomes can be supported.",
@@ -446,5 +448,62 @@ pub fn wording(sentence: Sentence) -> &'static str {
             "Whoever changes this page can make it say anything. Trust the files and the program, \
              not the page.",
         Sentence::MadeBy => "Made by pbaudit {version}.",
+        Sentence::OfShortGroups(sentence) => short_groups::en::wording(sentence),
+    }
+}
+
+// What a sentence on weights says where it speaks of stable prices.
+fn of_stable_weights(sentence: StableWeights) -> &'static str {
+    match sentence {
+        StableWeights::WhyUnpriceable =>
+            "In the stable form each voter can offer for another project what is left, or the \
+             largest payment for a funded one, whichever is more. Whatever equal budget the voters \
+             had, and however they shared the costs of the projects that they approve, a condition \
+             on such prices would fail. The weights of this certificate prove it.",
+        StableWeights::WhyUnpriceableUnderCover =>
+            "In the stable form each voter can offer for another project what is left, or the \
+             largest payment for a funded one, whichever is more. However the voters shared the \
+             costs of the projects that they approve, a condition on such prices would fail if \
+             their equal budgets come to more than the limit together. The weights of this \
+             certificate prove it. They say nothing about smaller budgets.",
+        StableWeights::Asked =>
+            "Asked: do the weights prove that no stable prices at all support this outcome?",
+        StableWeights::AskedUnderCover =>
+            "Asked: do the weights prove that no stable prices with budgets above the limit \
+             support this outcome?",
+        StableWeights::OfAllPrices =>
+            "They prove it of all prices, also in the plain form, which asks less.",
+        StableWeights::CountsOffer => "its supporters can offer at most its cost",
+        StableWeights::AsksU1 =>
+            "For a funded project the weights may count what is paid for it; for any other, what \
+             its supporters can offer.",
+        StableWeights::AsksU2 =>
+            "A voter’s budget may be counted as often as what the voter can offer is counted, over \
+             the projects that the voter approves and that were not funded, and not more often. No \
+             payment is more than that offer, so offers make up for some of what payments count.",
+        StableWeights::BrokenU1Funded =>
+            "Project {project} is funded, and its row counts what its supporters can offer.",
+        StableWeights::FoundU2 =>
+            "Apart from what offers make up for, payments count a voter’s budget {counted} times \
+             at the most, over all voters; what voters can offer counts it {taken} times.",
+        StableWeights::BrokenU2 =>
+            "Even apart from what offers make up for, payments may count a voter’s budget \
+             {counted} times, over all voters; what voters can offer counts it only {taken} times.",
+        StableWeights::NotSaidPlain =>
+            "That no prices support the outcome in the plain form, which asks less. There may be \
+             some all the same.",
+        StableWeights::NotSaidWeights =>
+            "That there are stable prices that support the outcome. This no speaks of these \
+             weights alone, and others may refute it.",
+        StableWeights::ClaimUnpriceable =>
+            "No stable prices support this outcome: whatever equal budget the voters are given, \
+             and however they share the costs of the projects that they approve, a group of voters \
+             would rather pay for another project.",
+        StableWeights::ClaimUnpriceableUnderCover =>
+            "No stable prices support this outcome if the voters’ equal budgets come to more than \
+             the limit together.",
+        StableWeights::ClaimNotRefuted =>
+            "This certificate doesn’t prove that no stable prices support the outcome. More can’t \
+             be said.",
     }
 }

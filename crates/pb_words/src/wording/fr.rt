@@ -1,12 +1,13 @@
 //! The sentences in French.
-use crate::sentence::{Plural, Sentence};
+use crate::sentence::{Plural, Sentence, StableWeights};
+use crate::wording::short_groups;
 
 /// What a sentence says.
 pub fn wording(sentence: Sentence) -> &'static str {
     match sentence {
         Sentence::Kicker => "Budget participatif\u{a0}: vérification du résultat",
         Sentence::Place => "Lieu",
-        Sentence::VotingDates => "Vote",
+        Sentence::VotingDates => "Scrutin",
         Sentence::FromTo => "du {begin} au {end}",
         Sentence::Rule => "Méthode de sélection",
         Sentence::Voters => "Votants",
@@ -79,10 +80,10 @@ pub fn wording(sentence: Sentence) -> &'static str {
         Sentence::AskedByCount => "On compte les projets\u{a0}: chacun vaut 1.",
         Sentence::AskedByCost => "On compte les coûts\u{a0}: chaque projet vaut ce qu’il coûte.",
         Sentence::AskedRefutation =>
-            "Question\u{a0}: les poids prouvent-ils qu’aucun prix ne justifie ce résultat\u{202f}?",
+            "Question\u{a0}: les poids prouvent-ils qu’aucun prix ne soutient ce résultat\u{202f}?",
         Sentence::AskedRefutationUnderCover =>
             "Question\u{a0}: les poids prouvent-ils qu’aucun prix dont les budgets dépassent \
-             l’enveloppe ne justifie ce résultat\u{202f}?",
+             l’enveloppe ne soutient ce résultat\u{202f}?",
         Sentence::StableToo => "Sous la forme stable, plus exigeante, la réponse serait oui aussi.",
         Sentence::NotStable(Plural::One) =>
             "Sous la forme stable, plus exigeante, la réponse serait non\u{a0}: pour {count} \
@@ -127,11 +128,11 @@ pub fn wording(sentence: Sentence) -> &'static str {
         Sentence::VoterBudget => "Budget de chaque votant",
         Sentence::OfTheLimit => "Enveloppe de {limit}",
         Sentence::LimitFunded => "{amount} pour les projets financés",
-        Sentence::LimitLeft => "{amount} de reste",
+        Sentence::LimitLeft => "reste\u{a0}: {amount}",
         Sentence::LimitOver => "{amount} au-delà de l’enveloppe",
         Sentence::OfTheBudgets => "Budgets de tous les votants, {budgets} au total",
         Sentence::BudgetsSpent => "{amount} de dépenses",
-        Sentence::BudgetsLeft => "{amount} de reste",
+        Sentence::BudgetsLeft => "reste\u{a0}: {amount}",
         Sentence::BudgetsOver => "{amount} au-delà des budgets",
         Sentence::Unfunded => "Projets non financés",
         Sentence::Funded => "Projets financés",
@@ -360,6 +361,7 @@ pub fn wording(sentence: Sentence) -> &'static str {
         Sentence::BrokenU3 =>
             "Selon ces poids, au moins {least} est à payer, et {most} peut l’être\u{a0}: ce n’est \
              pas une contradiction.",
+        Sentence::OfStableWeights(sentence) => of_stable_weights(sentence),
         Sentence::NotSaid => "Ce que cela ne dit pas",
         Sentence::NotSaidOthers =>
             "Si d’autres projets auraient été aussi équitables. Plusieurs résultats peuvent se \
@@ -373,7 +375,7 @@ pub fn wording(sentence: Sentence) -> &'static str {
              l’enveloppe.",
         Sentence::NotSaidPayments =>
             "Que le résultat est injuste. Ce non ne vaut que pour ces paiements, et d’autres \
-             peuvent justifier les mêmes projets.",
+             peuvent soutenir les mêmes projets.",
         Sentence::NotSaidOutcome =>
             "Que d’autres paiements aideraient. C’est le résultat lui-même qui est en cause, et \
              aucun paiement n’y change rien.",
@@ -385,25 +387,25 @@ pub fn wording(sentence: Sentence) -> &'static str {
             "Qu’un certain groupe a été mal traité. C’est un certificat de violation qui le \
              montrerait.",
         Sentence::NotSaidWeights =>
-            "Qu’il y a des prix qui justifient le résultat. Ce non ne vaut que pour ces poids, et \
+            "Qu’il y a des prix qui soutiennent le résultat. Ce non ne vaut que pour ces poids, et \
              d’autres peuvent le réfuter.",
         Sentence::NotSaidFiles =>
             "Si ces fichiers sont ceux que la commune a publiés. Comparez leurs sommes de contrôle \
              à celles qui sont publiées.",
         Sentence::Claim => "Ce que vous pouvez dire en public",
         Sentence::ClaimSupported =>
-            "Il existe des prix qui justifient ce résultat\u{a0}: chaque projet financé est payé \
+            "Il existe des prix qui soutiennent ce résultat\u{a0}: chaque projet financé est payé \
              exactement par des votants qui l’approuvent, sur des budgets égaux, et à aucun groupe \
              de soutiens il ne reste plus que le coût d’un autre projet.",
         Sentence::ClaimStable =>
-            "Il existe des prix stables qui justifient ce résultat\u{a0}: chaque projet financé \
+            "Il existe des prix stables qui soutiennent ce résultat\u{a0}: chaque projet financé \
              est payé exactement par des votants qui l’approuvent, sur des budgets égaux, et aucun \
              groupe ne préférerait payer un autre projet.",
         Sentence::ClaimNotSupported =>
-            "Ces paiements ne justifient pas le résultat. On ne peut en dire plus\u{a0}: d’autres \
+            "Ces paiements ne soutiennent pas le résultat. On ne peut en dire plus\u{a0}: d’autres \
              le peuvent.",
         Sentence::ClaimPlain =>
-            "Ces prix justifient ce résultat sous la forme simple, mais pas sous la forme \
+            "Ces prix soutiennent ce résultat sous la forme simple, mais pas sous la forme \
              stable\u{a0}: chaque projet financé est payé exactement par des votants qui \
              l’approuvent, sur des budgets égaux, et à aucun groupe de soutiens il ne reste plus \
              que le coût d’un autre projet.",
@@ -423,13 +425,13 @@ pub fn wording(sentence: Sentence) -> &'static str {
         Sentence::ClaimNoViolation =>
             "Ce certificat ne montre pas de violation. Il ne montre pas qu’il n’y en a pas.",
         Sentence::ClaimUnpriceable =>
-            "Aucun prix ne justifie ce résultat, quel que soit le budget égal donné aux votants et \
+            "Aucun prix ne soutient ce résultat, quel que soit le budget égal donné aux votants et \
              de quelque façon qu’ils partagent les coûts des projets qu’ils approuvent.",
         Sentence::ClaimUnpriceableUnderCover =>
-            "Aucun prix ne justifie ce résultat si les budgets égaux des votants font ensemble \
+            "Aucun prix ne soutient ce résultat si les budgets égaux des votants font ensemble \
              plus que l’enveloppe.",
         Sentence::ClaimNotRefuted =>
-            "Ce certificat ne prouve pas qu’aucun prix ne justifie le résultat. On ne peut en dire \
+            "Ce certificat ne prouve pas qu’aucun prix ne soutient le résultat. On ne peut en dire \
              plus.",
         Sentence::ClaimHow =>
             "Dites de quels fichiers il s’agit, avec leurs sommes de contrôle, pour que chacun \
@@ -459,7 +461,7 @@ pub fn wording(sentence: Sentence) -> &'static str {
         Sentence::MeansWeight =>
             "Combien de fois le certificat compte une condition sur un projet.",
         Sentence::Files => "Les fichiers, et comment vérifier",
-        Sentence::ElectionFile => "Vote",
+        Sentence::ElectionFile => "Scrutin",
         Sentence::OutcomeFile => "Résultat",
         Sentence::CertificateFile => "Certificat",
         Sentence::Bytes(Plural::One) => "{count} octet",
@@ -478,5 +480,69 @@ pub fn wording(sentence: Sentence) -> &'static str {
             "Qui modifie cette page peut lui faire dire n’importe quoi. Fiez-vous aux fichiers et \
              au programme, pas à la page.",
         Sentence::MadeBy => "Créé par pbaudit {version}.",
+        Sentence::OfShortGroups(sentence) => short_groups::fr::wording(sentence),
+    }
+}
+
+// What a sentence on weights says where it speaks of stable prices.
+fn of_stable_weights(sentence: StableWeights) -> &'static str {
+    match sentence {
+        StableWeights::WhyUnpriceable =>
+            "Sous la forme stable, chaque votant peut offrir pour un autre projet ce qui lui reste \
+             ou son plus grand paiement pour un projet financé, selon ce qui est le plus élevé. \
+             Quel que soit le budget égal des votants, et de quelque façon qu’ils se partagent les \
+             coûts des projets qu’ils approuvent, une condition sur de tels prix ne serait pas \
+             remplie. Les poids de ce certificat le prouvent.",
+        StableWeights::WhyUnpriceableUnderCover =>
+            "Sous la forme stable, chaque votant peut offrir pour un autre projet ce qui lui reste \
+             ou son plus grand paiement pour un projet financé, selon ce qui est le plus élevé. De \
+             quelque façon que les votants se partagent les coûts des projets qu’ils approuvent, \
+             une condition sur de tels prix ne serait pas remplie si leurs budgets égaux font \
+             ensemble plus que l’enveloppe. Les poids de ce certificat le prouvent. De budgets \
+             plus petits, ils ne disent rien.",
+        StableWeights::Asked =>
+            "Question\u{a0}: les poids prouvent-ils qu’aucun prix stable ne soutient ce \
+             résultat\u{202f}?",
+        StableWeights::AskedUnderCover =>
+            "Question\u{a0}: les poids prouvent-ils qu’aucun prix stable dont les budgets \
+             dépassent l’enveloppe ne soutient ce résultat\u{202f}?",
+        StableWeights::OfAllPrices =>
+            "Ils le prouvent de tous les prix, même sous la forme simple, moins exigeante.",
+        StableWeights::CountsOffer => "ses soutiens peuvent offrir au plus son coût",
+        StableWeights::AsksU1 =>
+            "D’un projet financé on peut compter ce qui est payé pour lui, et d’un autre ce que \
+             ses soutiens peuvent offrir.",
+        StableWeights::AsksU2 =>
+            "Le budget d’un votant peut être compté aussi souvent qu’est compté ce qu’il peut \
+             offrir, pour les projets non financés qu’il approuve, et pas plus souvent. Aucun \
+             paiement ne dépasse cette offre\u{202f}; les offres compensent donc une partie de ce \
+             que comptent les paiements.",
+        StableWeights::BrokenU1Funded =>
+            "Le projet {project} est financé, et sa ligne compte ce que ses soutiens peuvent \
+             offrir.",
+        StableWeights::FoundU2 =>
+            "Mis à part ce que les offres compensent, les paiements comptent le budget d’un votant \
+             {counted} fois au plus, pour tous les votants\u{202f}; ce qu’ils peuvent offrir le \
+             compte {taken} fois.",
+        StableWeights::BrokenU2 =>
+            "Même mis à part ce que les offres compensent, les paiements peuvent compter le budget \
+             d’un votant {counted} fois, pour tous les votants\u{202f}; ce qu’ils peuvent offrir \
+             ne le compte que {taken} fois.",
+        StableWeights::NotSaidPlain =>
+            "Qu’aucun prix ne soutient le résultat sous la forme simple, moins exigeante. Il peut \
+             quand même y en avoir.",
+        StableWeights::NotSaidWeights =>
+            "Qu’il y a des prix stables qui soutiennent le résultat. Ce non ne vaut que pour ces \
+             poids, et d’autres peuvent le réfuter.",
+        StableWeights::ClaimUnpriceable =>
+            "Aucun prix stable ne soutient ce résultat\u{a0}: quel que soit le budget égal donné \
+             aux votants et de quelque façon qu’ils partagent les coûts des projets qu’ils \
+             approuvent, un groupe de votants préférerait payer un autre projet.",
+        StableWeights::ClaimUnpriceableUnderCover =>
+            "Aucun prix stable ne soutient ce résultat si les budgets égaux des votants font \
+             ensemble plus que l’enveloppe.",
+        StableWeights::ClaimNotRefuted =>
+            "Ce certificat ne prouve pas qu’aucun prix stable ne soutient le résultat. On ne peut \
+             en dire plus.",
     }
 }

@@ -1,5 +1,6 @@
 //! The sentences in Polish.
-use crate::sentence::{Plural, Sentence};
+use crate::sentence::{Plural, Sentence, StableWeights};
+use crate::wording::short_groups;
 
 /// What a sentence says.
 pub fn wording(sentence: Sentence) -> &'static str {
@@ -76,10 +77,10 @@ pub fn wording(sentence: Sentence) -> &'static str {
         Sentence::AskedByCount => "Liczy się liczba projektów: każdy jest wart 1.",
         Sentence::AskedByCost => "Liczy się koszt: każdy projekt jest wart tyle, ile kosztuje.",
         Sentence::AskedRefutation =>
-            "Pytanie: czy wagi dowodzą, że żadne ceny nie uzasadniają tego wyniku?",
+            "Pytanie: czy wagi dowodzą, że żadne ceny nie wspierają tego wyniku?",
         Sentence::AskedRefutationUnderCover =>
-            "Pytanie: czy wagi dowodzą, że żadne ceny z budżetami większymi niż pula nie \
-             uzasadniają tego wyniku?",
+            "Pytanie: czy wagi dowodzą, że żadne ceny z budżetami większymi niż pula nie wspierają \
+             tego wyniku?",
         Sentence::StableToo =>
             "W wersji stabilnej, która wymaga więcej, odpowiedź też byłaby twierdząca.",
         Sentence::NotStable(Plural::One) =>
@@ -350,7 +351,8 @@ pub fn wording(sentence: Sentence) -> &'static str {
         Sentence::BrokenU3 =>
             "Według tych wag trzeba zapłacić co najmniej {least}, a można {most}: to nie jest \
              sprzeczność.",
-        Sentence::NotSaid => "Czego to nie mówi",
+        Sentence::OfStableWeights(sentence) => of_stable_weights(sentence),
+        Sentence::NotSaid => "Czego z tego nie wynika",
         Sentence::NotSaidOthers =>
             "Czy inne projekty byłyby równie sprawiedliwe. Uzasadnić można nieraz kilka wyników.",
         Sentence::NotSaidDeserved =>
@@ -361,7 +363,7 @@ pub fn wording(sentence: Sentence) -> &'static str {
              budżety wszystkich głosujących muszą razem sięgać co najmniej puli.",
         Sentence::NotSaidPayments =>
             "Że wynik jest niesprawiedliwy. Ta odpowiedź dotyczy tylko tych płatności; inne mogą \
-             uzasadniać te same projekty.",
+             wspierać te same projekty.",
         Sentence::NotSaidOutcome =>
             "Że pomogłyby inne płatności. Tu zawodzi sam wynik i żadne płatności tego nie zmienią.",
         Sentence::NotSaidGroup =>
@@ -372,26 +374,26 @@ pub fn wording(sentence: Sentence) -> &'static str {
             "Że źle potraktowano jakąś określoną grupę. To wykazałby dopiero certyfikat \
              naruszenia.",
         Sentence::NotSaidWeights =>
-            "Że istnieją ceny, które uzasadniają ten wynik. Ta odpowiedź dotyczy tylko tych wag; \
+            "Że istnieją ceny, które wspierają ten wynik. Ta odpowiedź dotyczy tylko tych wag; \
              inne mogą go obalać.",
         Sentence::NotSaidFiles =>
             "Czy to te pliki, które ogłosiła gmina. Porównaj ich sumy kontrolne z ogłoszonymi.",
         Sentence::Claim => "Co można powiedzieć publicznie",
         Sentence::ClaimSupported =>
-            "Istnieją ceny, które uzasadniają ten wynik: każdy wybrany projekt opłacają co do \
-             grosza głosujący, którzy go popierają, z równych budżetów, i żadnej grupie \
-             zwolenników nie zostało więcej, niż kosztuje inny projekt.",
+            "Istnieją ceny, które wspierają ten wynik: każdy wybrany projekt opłacają co do grosza \
+             głosujący, którzy go popierają, z równych budżetów, i żadnej grupie zwolenników nie \
+             zostało więcej, niż kosztuje inny projekt.",
         Sentence::ClaimStable =>
-            "Istnieją stabilne ceny, które uzasadniają ten wynik: każdy wybrany projekt opłacają \
-             co do grosza głosujący, którzy go popierają, z równych budżetów, i żadna grupa nie \
+            "Istnieją stabilne ceny, które wspierają ten wynik: każdy wybrany projekt opłacają co \
+             do grosza głosujący, którzy go popierają, z równych budżetów, i żadna grupa nie \
              wolałaby zapłacić za inny projekt.",
         Sentence::ClaimNotSupported =>
-            "Te płatności nie uzasadniają wyniku. Więcej powiedzieć nie można: inne mogą go \
-             uzasadniać.",
+            "Te płatności nie wspierają wyniku. Więcej powiedzieć nie można: inne mogą go \
+             wspierać.",
         Sentence::ClaimPlain =>
-            "Te ceny uzasadniają ten wynik w wersji podstawowej, ale nie w stabilnej: każdy \
-             wybrany projekt opłacają co do grosza głosujący, którzy go popierają, z równych \
-             budżetów, i żadnej grupie zwolenników nie zostało więcej, niż kosztuje inny projekt.",
+            "Te ceny wspierają ten wynik w wersji podstawowej, ale nie w stabilnej: każdy wybrany \
+             projekt opłacają co do grosza głosujący, którzy go popierają, z równych budżetów, i \
+             żadnej grupie zwolenników nie zostało więcej, niż kosztuje inny projekt.",
         Sentence::ClaimOutcome => "Wynik łamie warunek, bez względu na płatności.",
         Sentence::ClaimViolation =>
             "Wynik traktuje grupę głosujących gorzej, niż na to zasługuje: nie zapewnia \
@@ -406,14 +408,14 @@ pub fn wording(sentence: Sentence) -> &'static str {
         Sentence::ClaimNoViolation =>
             "Ten certyfikat nie wykazuje naruszenia. Nie wykazuje też, że go nie ma.",
         Sentence::ClaimUnpriceable =>
-            "Żadne ceny nie uzasadniają tego wyniku: jakikolwiek równy budżet dostaliby głosujący \
-             i jakkolwiek podzieliliby koszty popieranych projektów.",
+            "Żadne ceny nie wspierają tego wyniku: jakikolwiek równy budżet dostaliby głosujący i \
+             jakkolwiek podzieliliby koszty popieranych projektów.",
         Sentence::ClaimUnpriceableUnderCover =>
-            "Żadne ceny nie uzasadniają tego wyniku, jeśli równe budżety głosujących dają razem \
+            "Żadne ceny nie wspierają tego wyniku, jeśli równe budżety głosujących dają razem \
              więcej niż pula.",
         Sentence::ClaimNotRefuted =>
-            "Ten certyfikat nie dowodzi, że żadne ceny nie uzasadniają wyniku. Więcej powiedzieć \
-             nie można.",
+            "Ten certyfikat nie dowodzi, że żadne ceny nie wspierają wyniku. Więcej powiedzieć nie \
+             można.",
         Sentence::ClaimHow =>
             "Podaj, o które pliki chodzi, wraz z sumami kontrolnymi, żeby każdy mógł to sprawdzić.",
         Sentence::Words => "Słowa na tej stronie",
@@ -460,5 +462,67 @@ pub fn wording(sentence: Sentence) -> &'static str {
             "Kto zmieni tę stronę, może wpisać w nią wszystko. Ufaj plikom i programowi, nie \
              stronie.",
         Sentence::MadeBy => "Utworzono programem pbaudit {version}.",
+        Sentence::OfShortGroups(sentence) => short_groups::pl::wording(sentence),
+    }
+}
+
+// What a sentence on weights says where it speaks of stable prices.
+fn of_stable_weights(sentence: StableWeights) -> &'static str {
+    match sentence {
+        StableWeights::WhyUnpriceable =>
+            "W wersji stabilnej każdy głosujący może zaoferować na inny projekt to, co mu zostało, \
+             albo swoją największą płatność za wybrany projekt, zależnie od tego, co większe. \
+             Jakikolwiek równy budżet mieliby głosujący i jakkolwiek podzieliliby między siebie \
+             koszty popieranych projektów, jakiś warunek na takie ceny nie byłby spełniony. \
+             Dowodzą tego wagi z tego certyfikatu.",
+        StableWeights::WhyUnpriceableUnderCover =>
+            "W wersji stabilnej każdy głosujący może zaoferować na inny projekt to, co mu zostało, \
+             albo swoją największą płatność za wybrany projekt, zależnie od tego, co większe. \
+             Jakkolwiek głosujący podzieliliby między siebie koszty popieranych projektów, jakiś \
+             warunek na takie ceny nie byłby spełniony, jeśli ich równe budżety dają razem więcej \
+             niż pula. Dowodzą tego wagi z tego certyfikatu. O mniejszych budżetach nic nie mówią.",
+        StableWeights::Asked =>
+            "Pytanie: czy wagi dowodzą, że żadne stabilne ceny nie wspierają tego wyniku?",
+        StableWeights::AskedUnderCover =>
+            "Pytanie: czy wagi dowodzą, że żadne stabilne ceny z budżetami większymi niż pula nie \
+             wspierają tego wyniku?",
+        StableWeights::OfAllPrices =>
+            "Dowodzą tego dla wszystkich cen, także w wersji podstawowej, która wymaga mniej.",
+        StableWeights::CountsOffer => "zwolennicy mogą zaoferować co najwyżej jego koszt",
+        StableWeights::AsksU1 =>
+            "Przy wybranym projekcie liczyć można to, co się za niego płaci, a przy innym to, co \
+             mogą zaoferować jego zwolennicy.",
+        StableWeights::AsksU2 =>
+            "Budżet głosującego można policzyć tyle razy, ile razy liczy się to, co może on \
+             zaoferować, we wszystkich popieranych przez niego niewybranych projektach, i nie \
+             więcej razy. Żadna płatność nie jest większa od tej oferty, więc oferty wyrównują \
+             część tego, co liczą płatności.",
+        StableWeights::BrokenU1Funded =>
+            "Projekt {project} jest wybrany, a jego wiersz liczy to, co mogą zaoferować jego \
+             zwolennicy.",
+        StableWeights::FoundU2 =>
+            "Pomijając to, co wyrównują oferty, płatności liczą budżet głosującego co najwyżej \
+             {counted} razy, łącznie dla wszystkich głosujących; to, co mogą zaoferować, liczy go \
+             {taken} razy.",
+        StableWeights::BrokenU2 =>
+            "Nawet pomijając to, co wyrównują oferty, płatności mogą liczyć budżet głosującego \
+             {counted} razy, łącznie dla wszystkich głosujących; to, co mogą zaoferować, liczy go \
+             tylko {taken} razy.",
+        StableWeights::NotSaidPlain =>
+            "Że żadne ceny nie wspierają tego wyniku w wersji podstawowej, która wymaga mniej. \
+             Takie ceny mogą mimo to istnieć.",
+        StableWeights::NotSaidWeights =>
+            "Że istnieją stabilne ceny, które wspierają ten wynik. Ta odpowiedź dotyczy tylko tych \
+             wag; inne mogą go obalać.",
+        StableWeights::ClaimUnpriceable =>
+            "Żadne stabilne ceny nie wspierają tego wyniku: jakikolwiek równy budżet dostaliby \
+             głosujący i jakkolwiek podzieliliby koszty popieranych projektów, jakaś grupa \
+             głosujących wolałaby zapłacić za inny projekt.",
+        StableWeights::ClaimUnpriceableUnderCover =>
+            "Żadne stabilne ceny nie wspierają tego wyniku, jeśli równe budżety głosujących dają \
+             razem więcej niż pula.",
+        StableWeights::ClaimNotRefuted =>
+            "Ten certyfikat nie dowodzi, że żadne stabilne ceny nie wspierają wyniku. Więcej \
+             powiedzieć nie można.",
     }
 }

@@ -14,5 +14,5 @@ returns g c =
     (turn g.P.Given.delivers c.args.prices.now c.both_in_turn-work.new.prices)
     (turn g.V.Given.delivers c.args.violation.now c.both_in_turn-work.new.violation) in
     let of = subst (λ (o : Option Reply). IfSome o is_reply) c.in_ok-reply.ensures c.both_in_turn-work.ensures in
-    IfOk-weaker c.answer.result _ _ (λ answer is. record { reply = c.in_ok-reply.reply; of_inputs = of; out = is })
-    c.answer.ensures
+    IfOk-weaker c.answer_as.result _ _ (λ answer is. record { reply = c.in_ok-reply.reply; of_inputs = of; out = is })
+    c.answer_as.ensures

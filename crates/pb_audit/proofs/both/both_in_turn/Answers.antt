@@ -36,26 +36,26 @@ returns-in_err-outcome g c =
     refl
     )
 
-pub returns-in_err-verdict : goal.returns-in_err-verdict
-returns-in_err-verdict g c =
-    let is : c.from_residual-in_err-verdict.result ≡ Err c.in_err-verdict.field-0.0 = search rules in
+pub returns-in_err-findings : goal.returns-in_err-findings
+returns-in_err-findings g c =
+    let is : c.from_residual-in_err-findings.result ≡ Err c.in_err-findings.field-0.0 = search rules in
     rw is (
     both_ended_at_prices c.args.mode
     (turn g.E.Given.delivers c.args.election.now c.take_election.new.input)
     (file_turn g.O.Given.delivers c.args.outcome.now c.take_outcome.new.input)
-    (turn g.P.Given.delivers c.args.prices.now c.take_verdict.new.prices)
+    (turn g.P.Given.delivers c.args.prices.now c.take_findings.new.prices)
     (turn g.V.Given.delivers c.args.violation.now c.args.violation.now)
-    c.in_ok-election.election c.in_ok-outcome.outcome.marks c.in_err-verdict.field-0.0
-    c.in_ok-election.ensures c.in_ok-outcome.ensures.taken c.in_err-verdict.ensures.verdict refl
+    c.in_ok-election.election c.in_ok-outcome.outcome.marks c.in_err-findings.field-0.0
+    c.in_ok-election.ensures c.in_ok-outcome.ensures.taken c.in_err-findings.ensures.taken refl
     )
 
 pub returns : goal.returns
 returns g c =
-    both_settled c.args.mode _ _ _ _ _ _ c.in_ok-verdict.verdict _ _
-    c.in_ok-election.ensures c.in_ok-outcome.ensures.taken c.in_ok-verdict.ensures.verdict c.in_ok-violation.ensures
+    both_settled c.args.mode _ _ _ _ _ _ c.in_ok-findings.findings _ _
+    c.in_ok-election.ensures c.in_ok-outcome.ensures.taken c.in_ok-findings.ensures.taken c.in_ok-violation.ensures
     (subst
     (λ (d : Delivery). IfSome (settled (λ r. r) c.beside-reply.result)
-    (AnswersCertificate (StatesViolation Violation) (beside c.args.mode c.in_ok-verdict.verdict)
+    (AnswersCertificate (StatesViolation Violation) (beside c.args.mode c.in_ok-findings.findings)
     c.in_ok-election.election c.in_ok-outcome.outcome.marks d))
     c.lend.ensures c.beside-reply.ensures)
 

@@ -10,5 +10,5 @@ pub returns : goal.returns
 returns g c =
     let is_reply = ReadsElection (turn g.G.Given.delivers c.args.election.now c.read_in_turn-work.new.election) in
     let of = subst (λ (o : Option Reply). IfSome o is_reply) c.in_ok-reply.ensures c.read_in_turn-work.ensures in
-    IfOk-weaker c.answer.result _ _ (λ answer is. record { reply = c.in_ok-reply.reply; of_inputs = of; out = is })
-    c.answer.ensures
+    IfOk-weaker c.answer_as.result _ _ (λ answer is. record { reply = c.in_ok-reply.reply; of_inputs = of; out = is })
+    c.answer_as.ensures

@@ -6,11 +6,12 @@ use Rattle.pb_certificate.specs.Outcomes.Text.{IsOutcomeText}
 use Rattle.pb_certificate.specs.declared.refusal.CertRefusal.{CertRefusal}
 use Rattle.pb_certificate.proofs.Ends.{stop-is-memory, stop-refuses}
 use Rattle.pb_certificate.proofs.OnOutcomes.Clear.{outcome-clear}
-use Rattle.pb_certificate.proofs.OnOutcomes.Steps.{whole-outcome}
+use Rattle.pb_certificate.proofs.OnOutcomes.Answered.{whole-outcome}
 use Rattle.pb_certificate.proofs.Unique.{outcome-text-length, outcome-text-same}
 use Rattle.pb_certificate.proofs.outcomes.read_outcome.Goals as goal
 
 pub of-requires : goal.of-requires
+unfolding outcome_form
 of-requires c =
     let recs = certificate_records c.args.bytes.now in
     let e = c.args.election.now in
@@ -19,6 +20,7 @@ of-requires c =
     ap length c.into_marks.ensures ∙ outcome-text-length recs e c.take_all.new.draft.marks.items text
 
 pub returns-in-Ok-take_all-clause-found : goal.returns-in-Ok-take_all-clause-found
+unfolding outcome_form
 returns-in-Ok-take_all-clause-found c =
     let recs = certificate_records c.args.bytes.now in
     let e = c.args.election.now in
@@ -27,10 +29,12 @@ returns-in-Ok-take_all-clause-found c =
     subst (IsOutcomeText recs e) (sym (ap (λ (w : Funding). w.marks) c.of.ensures.value ∙ c.into_marks.ensures)) text
 
 pub returns-in-Ok-take_all-clause-funds : goal.returns-in-Ok-take_all-clause-funds
+unfolding outcome_form
 returns-in-Ok-take_all-clause-funds c = c.of.ensures.value
     ∙ ap (λ (ms : List Bool). funds ms c.args.election.now) (sym (ap (λ (w : Funding). w.marks) c.of.ensures.value))
 
 pub returns-in-Ok-take_all-clause-only : goal.returns-in-Ok-take_all-clause-only
+unfolding outcome_form
 returns-in-Ok-take_all-clause-only c = λ marks text. (
     let recs = certificate_records c.args.bytes.now in
     let e = c.args.election.now in
@@ -42,6 +46,7 @@ returns-in-Ok-take_all-clause-only c = λ marks text. (
     )
 
 pub returns-in-Err-clause-refused : goal.returns-in-Err-clause-refused
+unfolding outcome_form
 returns-in-Err-clause-refused c =
     let form = outcome_form c.args.election.now in
     let bytes = c.args.bytes.now in
@@ -49,6 +54,7 @@ returns-in-Err-clause-refused c =
     (stop-refuses form (certificate_records bytes) c.in-Err.stop c.in-Err.ensures.stopped)
 
 pub returns-in-Err-clause-only : goal.returns-in-Err-clause-only
+unfolding outcome_form
 returns-in-Err-clause-only c = λ marks text. (
     let recs = certificate_records c.args.bytes.now in
     let e = c.args.election.now in

@@ -10,7 +10,7 @@ use Rattle.pb_certificate.specs.Fields.{whole_in}
 use Rattle.pb_certificate.specs.NamedRows.Named.{Voter, Project}
 use Rattle.pb_certificate.specs.Samples.{demand_x1, demand_x2, least_a, left_c, member_1, most_b, price_columns, row_1a, row_1b, row_2a, row_3b, three, two}
 use Rattle.pb_certificate.specs.declared.refutations.weighting.Role.TheVariants.{Least, Most, Left}
-use Rattle.pb_certificate.proofs.OnPrices.Clear.{cons-rises, nil-rises}
+use Rattle.pb_certificate.proofs.OnPrices.Stated.{cons-rises, nil-rises}
 use Rattle.pb_certificate.proofs.samples.sample_texts.Goals as goal
 
 pub returns-clause-prices : goal.returns-clause-prices

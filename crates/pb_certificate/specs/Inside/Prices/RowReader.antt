@@ -1,9 +1,12 @@
 -- What the reader's own parts of the rows of a price certificate stand for, and as which place `Rows` is seen. What a
 -- file states is said without this module.
-use Rattle.std.specs.Prelude.{◌≡◌, ◌⊎◌, List, ◌++◌, length, map, Option, Some, None, Result, Ok, Err}
+use Rattle.std.specs.Prelude.{◌≡◌, ◌⊎◌, List, length, Option, Some, None, Result, Ok, Err}
 use Rattle.pb_election.specs.Instance.{projects}
 use Rattle.pb_records.specs.Records.{Rec}
-use Rattle.pb_certificate.specs.Prices.Text.{IsPriceHead, Payment, payment_of}
+use Rattle.pb_records.specs.Inside.Headed.{Taken}
+use Rattle.pb_certificate.specs.Prices.Kind.{price_kind}
+use Rattle.pb_certificate.specs.Prices.Kind.Awaited.{Row}
+use Rattle.pb_certificate.specs.Prices.Text.{Payment}
 use Rattle.pb_certificate.specs.Faults.{certificate_records, no_memory, price_form}
 use Rattle.pb_certificate.specs.Inside.Prices.Places.{StandsBehind}
 use Rattle.pb_certificate.specs.Inside.Prices.PriorRows.{Remembers}
@@ -25,12 +28,10 @@ place_of r =
 
 -- the head and some rows lie behind, no fault stands there, and the reader remembers what the rows state
 pub record IsReading (r : RowReader) : Type 0 where
-  pub heads : List Rec
-  pub rows : List Rec
+  pub before : List Rec
   pub payments : List Payment
-  pub is_head : IsPriceHead r.denominator r.budget heads
-  pub each_row : map (payment_of r.election.now) rows ≡ map Some payments
-  pub stands : StandsBehind (price_form r.election.now) (certificate_records r.bytes.now) r.cursor (heads ++ rows)
+  pub taken : Taken (price_kind r.election.now) before (record { head = Row r.denominator r.budget; rows = payments })
+  pub stands : StandsBehind (price_form r.election.now) (certificate_records r.bytes.now) r.cursor before
   pub remembers : Remembers r.prior payments
   pub each_project : length r.prior.last_payers.items ≡ projects r.election.now
 

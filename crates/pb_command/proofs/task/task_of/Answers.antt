@@ -1,6 +1,4 @@
 use Rattle.std.proofs.Common.{[], ◌∷◌, Some, Option, sym, false, is_some, option_map, ◌≡◌, ◌∙◌, ap, ap₂, subst, true, refl, map, string_bytes, ◌⊎◌, arith}
-use Rattle.std.specs.Prelude.{Result, Ok, Err, IfErr}
-use Rattle.std.specs.Result.{IsErr, IsErrAnd}
 use Rattle.clap.specs.Words.{HasKind, IsAmong, Kinds, fault_of, is_simple, is_simple_and_free, kind_of, subcommand_of, takes}
 use Rattle.clap.specs.declared.error.kind.ErrorKind.{ErrorKind}
 use Rattle.clap.specs.declared.error.kind.ErrorKind.TheVariants.{OutOfMemory}
@@ -9,8 +7,9 @@ use Rattle.pb_command.specs.declared.task.UsageFault.TheVariants.{Memory}
 use Rattle.pb_command.specs.Commands.{pbaudit}
 use Rattle.pb_command.proofs.Written.{commands_written}
 use Rattle.clap.specs.Kinds.{or_else}
-use Rattle.pb_command.specs.Tasks.{Asked, FitsKind, IsFaultOf, IsRefusalOf, TaskOf, asked, asked_in, language_fault}
+use Rattle.pb_command.specs.Tasks.{Asked, FitsKind, IsFaultOf, IsRefusalOf, TaskOf, asked, asked_in, value_fault}
 use Rattle.pb_command.specs.declared.task.Task.{Task}
+use Rattle.pb_command.proofs.Abouts.{handed_on}
 use Rattle.pb_command.proofs.Asks.{faultless_asks}
 use Rattle.pb_command.proofs.task.task_of.Goals as goal
 
@@ -31,8 +30,8 @@ returns-in-Some-clause-task c =
     ∙ ap asked_in ((c.in-Ok.ensures.matches (ap is_simple is.0 ∙ simple)).1 ∙ ap₂ subcommand_of is.0 words_are)
 
 -- a refusal where there is no fault in the language
-no_fault : (met : Option Asked) (f : UsageFault) → IsRefusalOf met f → language_fault met ≡ [] → f ≡ Memory
-no_fault met f h none = go (language_fault met) none h
+no_fault : (met : Option Asked) (f : UsageFault) → IsRefusalOf met f → value_fault met ≡ [] → f ≡ Memory
+no_fault met f h none = go (value_fault met) none h
   where
     go : (kinds : Kinds) → kinds ≡ [] → IsFaultOf kinds f → f ≡ Memory
     go kinds e h = grind arith
@@ -46,14 +45,8 @@ first [] b f h = grind arith
 first (k ∷ ks) b f h = h
 
 -- a task has its language
-faultless : (t : Task) → language_fault (Some (asked t)) ≡ []
+faultless : (t : Task) → value_fault (Some (asked t)) ≡ []
 faultless t = grind arith
-
--- what holds of the fault that is handed on
-if_err : (r : Result Task UsageFault) (f : UsageFault) (P : UsageFault → Type 0)
-    → IsErr r × IsErrAnd r (λ e. e ≡ f) → P f → IfErr r P
-if_err (Ok t) f P is h = tt
-if_err (Err e) f P is h = subst P (sym is.1) h
 
 pub returns-in_err-task-in-Ok-clause-taken : goal.returns-in_err-task-in-Ok-clause-taken
 returns-in_err-task-in-Ok-clause-taken c =
@@ -63,7 +56,7 @@ returns-in_err-task-in-Ok-clause-taken c =
     let met = ap asked_in ((c.in-Ok.ensures.matches (ap is_simple is.0 ∙ simple)).1 ∙ ap₂ subcommand_of is.0 words_are) in
     λ t none.
     let memory : c.in_err-task-in-Ok.field-0.0 ≡ Memory =
-    no_fault _ _ c.in_err-task-in-Ok.ensures.refused (ap language_fault met ∙ none) in grind arith
+    no_fault _ _ c.in_err-task-in-Ok.ensures.refused (ap value_fault met ∙ none) in grind arith
 
 pub returns-in_err-task-in-Ok-clause-refused : goal.returns-in_err-task-in-Ok-clause-refused
 returns-in_err-task-in-Ok-clause-refused c =
@@ -76,7 +69,7 @@ returns-in_err-task-in-Ok-clause-refused c =
     (c.in-Ok.ensures.kinds (ap is_simple_and_free is.0 ∙ simple_and_free)) in
     let refused = second (fault_of pbaudit (map string_bytes c.args.words.items)) _ c.in_err-task-in-Ok.field-0.0 taken
     (subst (λ o. IsRefusalOf o c.in_err-task-in-Ok.field-0.0) met c.in_err-task-in-Ok.ensures.refused) in
-    if_err _ _ _ c.from_residual-in_err-task-in-Ok.ensures refused
+    handed_on _ _ _ c.from_residual-in_err-task-in-Ok.ensures refused
 
 pub returns-clause-taken : goal.returns-clause-taken
 returns-clause-taken c =
@@ -112,7 +105,7 @@ returns-in-Some-clause-accepted c =
     let taken : fault_of pbaudit (map string_bytes c.args.words.items) ≡ [] =
     subst (λ kinds. kinds ≡ []) (ap₂ fault_of is.0 words_are)
     (c.in-Ok.ensures.kinds (ap is_simple_and_free is.0 ∙ simple_and_free)) in
-    ap₂ or_else taken (ap language_fault (sym task) ∙ faultless _)
+    ap₂ or_else taken (ap value_fault (sym task) ∙ faultless _)
 
 pub unreachable-requires : goal.unreachable-requires
 unreachable-requires c =

@@ -12,3 +12,6 @@ returns-in-Violation c = rw c.in-Violation.is (of-any (λ (pieces : List Piece).
 
 pub returns-in-Refutation : goal.returns-in-Refutation
 returns-in-Refutation c = rw c.in-Refutation.is (of-any (λ (pieces : List Piece). ⊤) _ (λ (pieces : List Piece). tt))
+
+pub returns-in-Groups : goal.returns-in-Groups
+returns-in-Groups c = rw c.in-Groups.is c.groups.ensures

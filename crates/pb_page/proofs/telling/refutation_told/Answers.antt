@@ -11,5 +11,5 @@ returns-clause-told c kind =
       OfRefutation r,
       subst (λ (k : Kind). StatesKind k c.args.election.now (lent c.args.certificate) (Ok (OfRefutation r))) (sym kind)
           (Ok r, c.in_ok-refutation.ensures.taken, refl),
-      (c.in_ok-line.figures, refl, c.in_ok-line.ensures),
+      (c.in_ok-line.figures, refl, refl, c.in_ok-line.ensures),
     )

@@ -40,6 +40,8 @@ returns c =
       demand_yes = λ h. on.demand_yes (same-answer _ _ h);
       pjr_yes = λ h. on.pjr_yes (same-answer _ _ h);
       unrefuted_yes = λ h. on.unrefuted_yes (same-answer _ _ h);
+      unrefuted_stable_yes = λ h. on.unrefuted_stable_yes (same-answer _ _ h);
       fair_yes = λ h. on.fair_yes (same-answer _ _ h);
       covered_yes = λ h. on.covered_yes (same-answer _ _ h);
+      ejr_plus_yes = λ h. on.ejr_plus_yes (same-answer _ _ h);
     }

@@ -5,17 +5,21 @@ use pb_certificate::CertFault;
 use pb_cohesion::ViolationFailure;
 use pb_election::ElectionFault;
 use pb_input::{InputFault, InputName};
-use pb_reply::{Answer, Fault, Reply, Status, Unmet, one_line, settled, stop_at, stopped};
+use pb_reply::{Answer, Fault, Format, Reply, Status, Unmet, one_line, settled, stop_at, stopped};
 use std::alloc::{AllocError, Global};
 use std::process::Abort;
 use std::test::Fail;
 
 const NO: Status = Status::No(Unmet::Violation(ViolationFailure::V1));
 
+/// Its object.
+const OBJECT: &str = "{\"answer\":\"no\"}";
+
 /// A reply that work came to.
 fn reply(alloc: Global) -> Result<Reply, AllocError> {
     let line = String::from_str(alloc, "supported stable")?;
-    let mut reply = one_line(alloc, line, NO)?;
+    let json = String::from_str(alloc, OBJECT)?;
+    let mut reply = one_line(alloc, line, json, NO)?;
     reply.lines.push(String::from_str(alloc, "failed V1")?)?;
     Ok(reply)
 }
@@ -38,6 +42,20 @@ fn work_that_came_to_its_end_is_settled_as_it_is(rt: HostRuntime) -> Result<(), 
 }
 
 #[test]
+fn a_reply_is_written_as_lines_or_as_an_object_or_as_both(rt: HostRuntime) -> Result<(), Fail> {
+    let alloc = rt.alloc();
+    let reply = reply(alloc)?;
+    let answer = reply.answer_as(alloc, Format::Lines)?;
+    expect_answer(&rt, &answer, "supported stable\nfailed V1\n", NO);
+    let answer = reply.answer_as(alloc, Format::Json)?;
+    expect_answer(&rt, &answer, "{\"answer\":\"no\"}\n", NO);
+    let both = "{\"answer\":\"no\"}\nsupported stable\nfailed V1\n";
+    let answer = reply.answer_as(alloc, Format::JsonAndLines)?;
+    expect_answer(&rt, &answer, both, NO);
+    Ok(())
+}
+
+#[test]
 fn what_stopped_the_work_is_told_in_a_line(rt: HostRuntime) -> Result<(), Fail> {
     let alloc = rt.alloc();
     let (input, fault) = (
@@ -45,9 +63,13 @@ fn what_stopped_the_work_is_told_in_a_line(rt: HostRuntime) -> Result<(), Fail> 
         in_certificate(CertFault::OutOfOrder, 6),
     );
     let line = "refused certificate 26 OutOfOrder record 6";
+    let object = "{\"answer\":\"refused\",\"input\":\"certificate\",\"kind\":\"refusal\",\
+        \"name\":\"OutOfOrder\",\"number\":26,\"record\":6,\"version\":1}\n";
     let stop = stop_at(input, fault);
     let reply = stopped(alloc, &stop)?;
     expect_lines(&rt, &reply.lines, &[line]);
+    let answer = reply.answer_as(alloc, Format::Json)?;
+    expect_answer(&rt, &answer, object, refused(input, fault));
     assert_eq!(rt; reply.status, refused(input, fault));
     let stop = stop_at(InputName::Folder, InputFault::Unread);
     let answer: Answer<Status> = settled(alloc, Err(stop))?;

@@ -1,13 +1,17 @@
 //! The lines on an election and those of verdicts, with the status of each, once by each call.
 use crate::tests::lines::expect_lines;
-use pb_cohesion::{ViolationFailure, ViolationVerdict};
-use pb_election::Election;
+use pb_certificate::Measure;
+use pb_cohesion::{
+    GroupsVerdict, RefutationFailure, RefutationVerdict, ViolationFailure, ViolationVerdict,
+};
+use pb_election::{Election, Outcome};
 use pb_price::{Failure, Verdict};
 use pb_reply::{
-    Status, Unmet, price_line, price_status, push_line, push_notes, read_line, violation_line,
+    Status, Unmet, groups_line, groups_status, price_line, price_status, push_limit_note,
+    push_line, push_notes, read_line, refutation_line, refutation_status, violation_line,
     violation_status,
 };
-use pb_samples::files::{ELECTION, without_outcome};
+use pb_samples::files::{ELECTION, town, without_outcome};
 use std::alloc::{AllocError, Global};
 use std::process::Abort;
 use std::test::Fail;
@@ -68,6 +72,118 @@ fn election_and_verdicts_have_their_lines(rt: HostRuntime) -> Result<(), Fail> {
             "failed C1 voter 3 project a",
             "failed V2 voter 2 project c",
         ],
+    );
+    Ok(())
+}
+
+/// The lines of verdicts on weights for an election of three projects, each with its status.
+fn lines_on_weights(
+    rt: &impl Abort,
+    alloc: Global,
+    election: &Election,
+) -> Result<Vec<String>, AllocError> {
+    assert_eq!(rt; election.projects(), 3);
+    let mut lines = Vec::new(alloc);
+    for verdict in [
+        RefutationVerdict::Unpriceable,
+        RefutationVerdict::UnpriceableUnderCover,
+        RefutationVerdict::UnpriceableStable,
+        RefutationVerdict::UnpriceableStableUnderCover,
+    ] {
+        lines.push(refutation_line(alloc, election, verdict)?)?;
+        assert_eq!(rt; refutation_status(verdict), Status::Yes);
+    }
+    let failure = RefutationFailure::U1(3);
+    let verdict = RefutationVerdict::Failed(failure);
+    lines.push(refutation_line(alloc, election, verdict)?)?;
+    assert_eq!(rt;
+        refutation_status(verdict),
+        Status::No(Unmet::Refutation(failure))
+    );
+    Ok(lines)
+}
+
+#[test]
+fn verdicts_on_weights_have_their_lines(rt: HostRuntime) -> Result<(), Fail> {
+    let election = Election::read(rt.alloc(), ELECTION.as_bytes())?;
+    expect_lines(
+        &rt,
+        &lines_on_weights(&rt, rt.alloc(), &election)?,
+        &[
+            "unpriceable",
+            "unpriceable cover",
+            "unpriceable stable",
+            "unpriceable stable cover",
+            "failed U1 project c",
+        ],
+    );
+    Ok(())
+}
+
+/// The lines of verdicts on groups in an election of three projects, each with its status.
+fn lines_on_groups(
+    rt: &impl Abort,
+    alloc: Global,
+    election: &Election,
+) -> Result<Vec<String>, AllocError> {
+    assert_eq!(rt; election.projects(), 3);
+    let mut lines = Vec::new(alloc);
+    let failed = GroupsVerdict::Failed {
+        project: 3,
+        voters: 1_000_000,
+    };
+    let unmet = Unmet::Groups {
+        project: 3,
+        voters: 1_000_000,
+    };
+    assert_eq!(rt;
+        [
+            groups_status(GroupsVerdict::Satisfied),
+            groups_status(failed)
+        ],
+        [Status::Yes, Status::No(unmet)]
+    );
+    for measure in [Measure::ByCost, Measure::ByCount] {
+        let satisfied = GroupsVerdict::Satisfied;
+        lines.push(groups_line(alloc, election, measure, satisfied)?)?;
+        lines.push(groups_line(alloc, election, measure, failed)?)?;
+    }
+    Ok(lines)
+}
+
+#[test]
+fn verdicts_on_groups_have_their_lines(rt: HostRuntime) -> Result<(), Fail> {
+    let election = Election::read(rt.alloc(), ELECTION.as_bytes())?;
+    expect_lines(
+        &rt,
+        &lines_on_groups(&rt, rt.alloc(), &election)?,
+        &[
+            "satisfied ejr+ by cost",
+            "failed EJR+ by cost voters 1000000 project c",
+            "satisfied ejr+ by count",
+            "failed EJR+ by count voters 1000000 project c",
+        ],
+    );
+    Ok(())
+}
+
+/// The notes on what the funded projects cost, where the limit is this.
+fn limit_notes(alloc: Global, limit: &str) -> Result<Vec<String>, Fail> {
+    let text = town(alloc, limit, "d;2;1 c;5;1 e;9;0", "d,c,e")?;
+    let election = Election::read(alloc, text.as_bytes())?;
+    let outcome = Outcome::selected(alloc, &election)?;
+    let mut lines = Vec::new(alloc);
+    push_limit_note(alloc, &mut lines, &election, &outcome)?;
+    Ok(lines)
+}
+
+#[test]
+fn note_tells_of_an_outcome_over_the_limit(rt: HostRuntime) -> Result<(), Fail> {
+    expect_lines(&rt, &limit_notes(rt.alloc(), "7")?, &[]);
+    expect_lines(
+        &rt,
+        &limit_notes(rt.alloc(), "6.999999")?,
+        &["note: the funded projects cost more than the limit"],
     );
     Ok(())
 }

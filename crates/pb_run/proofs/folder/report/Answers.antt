@@ -15,4 +15,5 @@ loop-name-preserved g c =
       one_shown_more string_bytes _ _ _ _ i.0 name _ _ _ _ i.1 added.files shown i.3 added.loads,
       added.taken i.1 i.4,
       added.mode ∙ i.5,
+      added.as_json ∙ i.6,
     )

@@ -14,3 +14,4 @@ invariant-loop-name g l =
     entries
     × HasTaken l.report entries
     × (l.report.mode ≡ l.fn.mode)
+    × (l.report.as_json ≡ l.fn.json)

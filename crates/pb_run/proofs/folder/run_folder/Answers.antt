@@ -1,5 +1,6 @@
 use Rattle.std.proofs.Common.{◌≡◌, Err, Ok, rules}
-use Rattle.pb_reply.specs.Replies.{answer_of, refused}
+use Rattle.pb_reply.specs.Replies.{answer_as, refused}
+use Rattle.pb_run.specs.Asking.{format_of}
 use Rattle.pb_run.specs.Folders.{ReportsFolder, ReportsOn, unlisted}
 use Rattle.pb_run.specs.Runs.{Once}
 use Rattle.pb_run.proofs.Endings.{ends_by_report}
@@ -10,12 +11,12 @@ returns-in_err-status g c =
     let was : c.write_report.result ≡ Err c.in_err-status.field-0.0 = search rules in
     let is : c.from_residual-in_err-status.result ≡ Err c.in_err-status.field-0.0 = search rules in
     let ends =
-    ends_by_report g.W.Sink (λ a. a ≡ answer_of (refused unlisted))
-    (ReportsOn g.F.Files.hands g.F.Input.Given.delivers c.args.mode c.args.folder.now c.in-Ok.listing
+    ends_by_report g.W.Sink (λ a. a ≡ answer_as (format_of c.args.json) (refused unlisted))
+    (ReportsOn g.F.Files.hands g.F.Input.Given.delivers c.args.json c.args.mode c.args.folder.now c.in-Ok.listing
     c.listing_of.new.files c.write_report.new.files)
     (Once
     (λ then.
-    ReportsFolder g.F.Files.lists g.F.Files.hands g.F.Input.Given.delivers c.args.mode c.args.folder.now
+    ReportsFolder g.F.Files.lists g.F.Files.hands g.F.Input.Given.delivers c.args.json c.args.mode c.args.folder.now
     c.args.files.now then))
     c.write_report.result c.args.out.now c.write_report.new.out
     (λ a r. (
@@ -34,12 +35,12 @@ pub returns : goal.returns
 returns g c =
     let was : c.write_report.result ≡ Ok c.in_ok-status.status = search rules in
     let ends =
-    ends_by_report g.W.Sink (λ a. a ≡ answer_of (refused unlisted))
-    (ReportsOn g.F.Files.hands g.F.Input.Given.delivers c.args.mode c.args.folder.now c.in-Ok.listing
+    ends_by_report g.W.Sink (λ a. a ≡ answer_as (format_of c.args.json) (refused unlisted))
+    (ReportsOn g.F.Files.hands g.F.Input.Given.delivers c.args.json c.args.mode c.args.folder.now c.in-Ok.listing
     c.listing_of.new.files c.write_report.new.files)
     (Once
     (λ then.
-    ReportsFolder g.F.Files.lists g.F.Files.hands g.F.Input.Given.delivers c.args.mode c.args.folder.now
+    ReportsFolder g.F.Files.lists g.F.Files.hands g.F.Input.Given.delivers c.args.json c.args.mode c.args.folder.now
     c.args.files.now then))
     c.write_report.result c.args.out.now c.write_report.new.out
     (λ a r. (

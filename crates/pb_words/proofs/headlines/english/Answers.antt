@@ -13,3 +13,7 @@ returns-in-NoViolation c = search rules
 pub returns-in-NotRefuted : goal.returns-in-NotRefuted
 unfolding encode_utf8
 returns-in-NotRefuted c = search rules
+
+pub returns-in-NotRefutedStable : goal.returns-in-NotRefutedStable
+unfolding encode_utf8
+returns-in-NotRefutedStable c = search rules

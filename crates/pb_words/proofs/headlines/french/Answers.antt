@@ -29,3 +29,23 @@ returns-in-NotRefuted c = search rules
 pub returns-in-Unpriceable : goal.returns-in-Unpriceable
 unfolding encode_utf8
 returns-in-Unpriceable c = search rules
+
+pub returns-in-UnpriceableStable : goal.returns-in-UnpriceableStable
+unfolding encode_utf8
+returns-in-UnpriceableStable c = search rules
+
+pub returns-in-UnpriceableStableUnderCover : goal.returns-in-UnpriceableStableUnderCover
+unfolding encode_utf8
+returns-in-UnpriceableStableUnderCover c = search rules
+
+pub returns-in-NotRefutedStable : goal.returns-in-NotRefutedStable
+unfolding encode_utf8
+returns-in-NotRefutedStable c = search rules
+
+pub returns-in-NoGroupFallsShort : goal.returns-in-NoGroupFallsShort
+unfolding encode_utf8
+returns-in-NoGroupFallsShort c = search rules
+
+pub returns-in-GroupFallsShort : goal.returns-in-GroupFallsShort
+unfolding encode_utf8
+returns-in-GroupFallsShort c = search rules

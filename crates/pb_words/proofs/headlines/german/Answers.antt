@@ -25,3 +25,15 @@ returns-in-UnpriceableUnderCover c = search rules
 pub returns-in-NotRefuted : goal.returns-in-NotRefuted
 unfolding encode_utf8
 returns-in-NotRefuted c = search rules
+
+pub returns-in-UnpriceableStable : goal.returns-in-UnpriceableStable
+unfolding encode_utf8
+returns-in-UnpriceableStable c = search rules
+
+pub returns-in-UnpriceableStableUnderCover : goal.returns-in-UnpriceableStableUnderCover
+unfolding encode_utf8
+returns-in-UnpriceableStableUnderCover c = search rules
+
+pub returns-in-NotRefutedStable : goal.returns-in-NotRefutedStable
+unfolding encode_utf8
+returns-in-NotRefutedStable c = search rules

@@ -9,12 +9,13 @@ pub returns-clause-taken : goal.returns-clause-taken
 returns-clause-taken c = λ entries taken.
     takes_more
     (record
-    { mode = c.self.inside.mode; text = string_bytes c.self.inside.text; endings = c.self.inside.endings.items })
+    { as_json = c.self.inside.as_json; mode = c.self.inside.mode; text = string_bytes c.self.inside.text; endings = c.self.inside.endings.items })
     (record {
+      as_json = c.self.inside.as_json;
       mode = c.self.inside.mode;
-      text = string_bytes c.push_found.new.text;
+      text = string_bytes c.push_entry.new.text;
       endings = c.push_endings.new.endings.items;
     })
-    entries (files_of c.args.entry.now) (found_as c.args.entry.now c.in_ok-found.found) refl c.in_ok-push_found.ensures
+    entries (files_of c.args.entry.now) (found_as c.args.entry.now c.in_ok-found.found) refl refl c.in_ok-push_entry.ensures
     c.in_ok-push_endings.ensures c.in_ok-found.ensures
     (subst (λ (p : Progress). HasTaken p entries) (sym c.self.view_is) taken)

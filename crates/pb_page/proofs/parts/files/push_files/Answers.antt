@@ -14,8 +14,8 @@ returns c =
     let has : List Piece → Type 0 = HasInOrder sums in
     let outcome = map sum_of (option_to_list files.outcome) in
     let one = c.push_file.ensures [] (of-any (HasInOrder []) _ (λ (pieces : List Piece). tt)) in
-    let two = c.push_outcome.ensures (sum_of files.election ∷ []) one in
-    let all = c.push_file-2.ensures (sum_of files.election ∷ outcome) two in
+    let two = c.push_given.ensures (sum_of files.election ∷ []) one in
+    let all = c.push_given-2.ensures (sum_of files.election ∷ outcome) two in
     let closed =
     adds-step has has _ _ (Close ∷ []) (λ these. in-order-before code_box sums these (Close ∷ [])) all c.close.ensures in
     append-step has has _ _ _ (in-order-before code_box sums) closed c.append.ensures

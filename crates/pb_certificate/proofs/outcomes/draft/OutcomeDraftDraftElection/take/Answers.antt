@@ -1,26 +1,21 @@
-use Rattle.std.proofs.Common.{◌∙◌, sym}
+use Rattle.std.specs.Prelude.{Err, Ok}
 use Rattle.csv.specs.Records.{fields_of}
-use Rattle.pb_certificate.proofs.OnOutcomes.Steps.{head-refused, head-taken, row-refused, row-taken}
+use Rattle.pb_records.proofs.Headed.{steps-stop, steps-take}
+use Rattle.pb_certificate.specs.Inside.Marks.{project_marks}
+use Rattle.pb_certificate.specs.Inside.Outcomes.{outcome_had}
+use Rattle.pb_certificate.specs.Outcomes.Kind.{outcome_kind}
 use Rattle.pb_certificate.proofs.outcomes.draft.OutcomeDraftDraftElection.take.Goals as goal
-
-pub returns-then-not-is_pair-clause-stopped : goal.returns-then-not-is_pair-clause-stopped
-returns-then-not-is_pair-clause-stopped c =
-    head-refused c.args.election.now c.args.self.now.begun c.args.self.now.marks.items (fields_of c.args.row.now)
-    c.requires.text c.if-not-self.true (sym c.is_pair.ensures ∙ c.if-not-is_pair.true)
-
-pub returns-then-not-self-clause-taken : goal.returns-then-not-self-clause-taken
-returns-then-not-self-clause-taken c =
-    head-taken c.args.election.now c.args.self.now.begun c.args.self.now.marks.items (fields_of c.args.row.now)
-    c.requires.text c.if-not-self.true (sym c.is_pair.ensures ∙ c.if-not-is_pair.false)
 
 pub returns-in-Ok-clause-taken : goal.returns-in-Ok-clause-taken
 returns-in-Ok-clause-taken c =
-    let old = c.args.self.now in
-    let new = c.take_row.new.self in
-    row-taken c.args.election.now old.begun new.begun old.marks.items new.marks.items (fields_of c.args.row.now)
-    c.requires.text c.if-not-self.false c.in-Ok.ensures.begun c.in-Ok.ensures.marks
+    let e = c.args.election.now in
+    steps-take (outcome_kind e) (project_marks e) (outcome_had c.args.self.now)
+    (outcome_had c.take_record.new.self) (fields_of c.args.row.now) (Ok c.in-Ok.field-0)
+    c.requires.text c.in-Ok.ensures
 
 pub returns-in-Err-clause-stopped : goal.returns-in-Err-clause-stopped
 returns-in-Err-clause-stopped c =
-    row-refused c.args.election.now c.args.self.now.begun c.args.self.now.marks.items (fields_of c.args.row.now)
-    c.in-Err.fault c.requires.text c.if-not-self.false c.in-Err.ensures.marks
+    let e = c.args.election.now in
+    steps-stop (outcome_kind e) (project_marks e) (outcome_had c.args.self.now)
+    (outcome_had c.take_record.new.self) (fields_of c.args.row.now) (Err c.in-Err.fault)
+    c.requires.text c.in-Err.ensures

@@ -1,4 +1,4 @@
-use Rattle.std.proofs.Common.{◌∙◌, [], refl, append-nil}
+use Rattle.std.proofs.Common.{◌∙◌, []}
 use Rattle.std.proofs.lemmas.Result.{err_from_is_err_and}
 use Rattle.pb_certificate.specs.Faults.{certificate_records}
 use Rattle.pb_certificate.proofs.OnPrices.ReaderSteps.{between-rows, given-is, opened, refused-in-head}
@@ -19,12 +19,10 @@ returns-clause-reading c =
     c.open-cursor.ensures.left in
     let read = c.in_ok-denominator.ensures c.args.election.now (certificate_records c.args.bytes.now) at in
     record {
-      heads = read.0;
-      rows = [];
+      before = read.0;
       payments = [];
-      is_head = read.1;
-      each_row = refl;
-      stands = rw append-nil read.2;
+      taken = read.1.taken;
+      stands = read.1.stands;
       remembers = c.in-Ok.ensures.remembers;
       each_project = c.in-Ok.ensures.projects ∙ c.projects.ensures.value;
     }

@@ -1,0 +1,108 @@
+//! Auditing an election and its outcome alone, by the figures of all projects.
+ghost use Rattle.std.specs.Prelude.{◌≡◌, All, IfOk};
+ghost use Rattle.pb_audit.specs.Figured.{FigureRules, FiguresPromise, IsFiguredReply, ReadsFigured};
+ghost use Rattle.pb_audit.specs.Inside.Certificates.{IfTold, Tells};
+ghost use Rattle.pb_election.specs.Outcome.{OutcomeFits};
+ghost use Rattle.pb_json.specs.Groups.{CanBeTold};
+ghost use Rattle.pb_reply.specs.Replies.{TellsReply};
+ghost use Rattle.pb_reply.specs.declared.answer.Format.TheVariants.{Lines};
+ghost use Rattle.pb_reply.specs.Turns.{file_turn, turn};
+
+use pb_certificate::Measure;
+use pb_cohesion::{GroupFigures, group_figures};
+use pb_election::{Election, Outcome};
+use pb_reply::{
+    Answer, Format, Given, Reply, Status, Stop, Telling, push_limit_note, push_notes, settled,
+    take_election, take_outcome,
+};
+use std::alloc::{AllocError, Global};
+
+/// How groups are told.
+pub(crate) trait FigureAudit {
+    // What is told of the replies.
+    type Told: Telling;
+
+    // The measure, the reply by the figures, and what the status of a reply promises.
+    ghost rules: { Self → FigureRules };
+
+    /// The measure of what voters got.
+    fn measure(&self) -> Measure
+        ensures { result ≡ (rules self.now).measure };
+
+    /// The reply by the figures of all projects, for an election and an outcome that were accepted. The status of each
+    /// reply keeps its promise.
+    fn reply_on(
+        &self,
+        alloc: Global,
+        election: &Election,
+        outcome: &Outcome,
+        figures: &[GroupFigures],
+    ) -> Result<Self::Told, AllocError>
+        requires outcome { OutcomeFits outcome.now election.now }
+        requires figures { All (CanBeTold election.now) figures.now }
+        ensures reply { IfOk result (λ own. own ≡ Self.Told.told ((rules self.now).reply election.now (outcome.now).marks figures.now)) }
+        ensures promised { FiguresPromise (rules self.now) };
+}
+
+/// The answer in a format on an election and on an outcome file where one is given, taken in this order. The notes on the
+/// election, and that on an outcome that costs more than the limit, are added to `notes`.
+pub(crate) fn figured_as<A: FigureAudit<Told = Reply>, E: Given, O: Given>(
+    alloc: Global,
+    format: Format,
+    audit: &A,
+    election: &mut E,
+    outcome: &mut Option<O>,
+    notes: &mut Vec<String>,
+) -> Result<Answer<Status>, AllocError>
+    ensures { IfOk result (TellsReply format (ReadsFigured (A.rules audit.now) (turn E.delivers election.old election.new) (file_turn O.delivers outcome.old outcome.new))) }
+{
+    let work = figured_in_turn(alloc, audit, election, outcome, notes);
+    let reply = settled(alloc, work)?;
+    reply.answer_as(alloc, format)
+}
+
+/// The same as lines, whatever is told of the replies.
+pub(crate) fn figured<A: FigureAudit, E: Given, O: Given>(
+    alloc: Global,
+    audit: &A,
+    election: &mut E,
+    outcome: &mut Option<O>,
+    notes: &mut Vec<String>,
+) -> Result<Answer<Status>, AllocError>
+    ensures { IfOk result (TellsReply Lines (ReadsFigured (A.rules audit.now) (turn E.delivers election.old election.new) (file_turn O.delivers outcome.old outcome.new))) }
+{
+    let work = figured_in_turn(alloc, audit, election, outcome, notes);
+    let told = settled(alloc, work)?;
+    told.into_answer(alloc)
+}
+
+/// What is told of the reply on the inputs.
+fn figured_in_turn<A: FigureAudit, E: Given, O: Given>(
+    alloc: Global,
+    audit: &A,
+    election: &mut E,
+    outcome: &mut Option<O>,
+    notes: &mut Vec<String>,
+) -> Result<A::Told, Stop>
+    ensures { IfTold A.Told.told (ReadsFigured (A.rules audit.now) (turn E.delivers election.old election.new) (file_turn O.delivers outcome.old outcome.new)) result }
+{
+    let election = take_election(alloc, election)?;
+    push_notes(alloc, notes, &election)?;
+    let outcome = take_outcome(alloc, outcome, &election)?;
+    push_limit_note(alloc, notes, &election, &outcome)?;
+    Ok(told_of(alloc, audit, &election, &outcome)?)
+}
+
+/// What is told of an election and an outcome that were accepted.
+fn told_of<A: FigureAudit>(
+    alloc: Global,
+    audit: &A,
+    election: &Election,
+    outcome: &Outcome,
+) -> Result<A::Told, AllocError>
+    requires { OutcomeFits outcome.now election.now }
+    ensures { IfOk result (Tells A.Told.told (IsFiguredReply (A.rules audit.now) election.now (outcome.now).marks)) }
+{
+    let figures = group_figures(alloc, election, outcome, audit.measure())?;
+    audit.reply_on(alloc, election, outcome, &figures)
+}

@@ -1,0 +1,28 @@
+use Rattle.std.proofs.Common.{◌≡◌, None, Some, false, refl}
+use Rattle.pb_records.proofs.Headed.{end-told}
+use Rattle.pb_certificate.specs.Inside.Refutations.{refutation_had}
+use Rattle.pb_certificate.specs.Refutations.Kind.{awaits_row, refutation_kind}
+use Rattle.pb_certificate.specs.Refutations.Text.{stated_by}
+use Rattle.pb_certificate.specs.declared.refutations.draft.Awaited.{Awaited}
+use Rattle.pb_certificate.specs.declared.refutations.draft.Awaited.TheVariants.{Format, Cover, Columns, Row}
+use Rattle.pb_certificate.specs.declared.refusal.CertFault.TheVariants as fault
+use Rattle.pb_certificate.proofs.refutations.draft.RefutationDraftDraftElection.end.Goals as goal
+
+short : (a : Awaited) → (a ≡ Row → ⊥) → awaits_row a ≡ false
+short Format other = refl
+short Cover other = refl
+short Columns other = refl
+short Row other = absurd (other refl)
+
+pub returns-in-Row : goal.returns-in-Row
+returns-in-Row c =
+    let e = c.args._election.now in
+    let had = refutation_had c.args.self.now in
+    end-told (refutation_kind e) (stated_by e) had.0 had.1 None (rw c.in-Row.is refl)
+
+pub returns-in_default : goal.returns-in_default
+returns-in_default c =
+    let e = c.args._election.now in
+    let had = refutation_had c.args.self.now in
+    end-told (refutation_kind e) (stated_by e) had.0 had.1 (Some fault.BadHead)
+    (rw (short c.args.self.now.awaited c.in_default.not-Row) refl)

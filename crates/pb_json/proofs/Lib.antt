@@ -1,0 +1,4 @@
+pub mod Named
+pub mod Plain
+pub mod Pushes
+pub mod Shown

@@ -1,0 +1,10 @@
+pub mod Members
+pub mod Places
+pub mod Elections
+pub mod Prices
+pub mod Violations
+pub mod Groups
+pub mod Refutations
+pub mod Answers
+pub mod Beside
+pub mod Texts

@@ -1,0 +1,122 @@
+-- The page about groups on its inputs in their turn.
+use Rattle.std.proofs.Common.{◌≡◌, ◌∙◌, Bool, List, Option, ap, refl, subst, sym}
+use Rattle.std.specs.Prelude.{IfOk, IfSome, Ok, Err, Result, Some, None, map, string_bytes}
+use Rattle.pb_election.specs.Instance.{Instance, all_projects, cost_of, voters}
+use Rattle.pb_records.specs.Loading.{Delivery}
+use Rattle.pb_certificate.specs.declared.violations.measure.Measure.{Measure}
+use Rattle.pb_cohesion.specs.Closest.{AreAllFigures}
+use Rattle.pb_cohesion.specs.Outcome.{total}
+use Rattle.pb_cohesion.specs.Shown.{shown}
+use Rattle.pb_case.specs.Shown.{ShowsLine}
+use Rattle.pb_figures.specs.Told.{verdict_on_groups}
+use Rattle.pb_figures.specs.declared.short_groups.ShortFigures.{ShortFigures}
+use Rattle.pb_figures.specs.declared.told.CertificateFigures.{CertificateFigures}
+use Rattle.pb_figures.specs.declared.told.CertificateFigures.TheVariants as found
+use Rattle.pb_figures.specs.declared.told.Told.{Told}
+use Rattle.pb_price_parts.specs.Rows.{ListsProjects}
+use Rattle.pb_reply.proofs.Groups.{groups-promise}
+use Rattle.pb_reply.specs.Inputs.{Stated, StatesElection}
+use Rattle.pb_reply.specs.Inside.Taking.{AuditsOutcome, Gives, IfTaken, settled}
+use Rattle.pb_reply.specs.Lines.{groups_line}
+use Rattle.pb_reply.specs.Promises.{GroupsPromise}
+use Rattle.pb_reply.specs.Replies.{Answer, answer_of, refused}
+use Rattle.pb_reply.specs.Turns.{FileTurn, Turn}
+use Rattle.pb_reply.specs.declared.status.Status.{Status}
+use Rattle.pb_reply.specs.declared.stop.Stop.{Stop}
+use Rattle.pb_reply.specs.declared.stop.Stop.TheVariants as stop
+use Rattle.pb_words.specs.declared.language.Language.{Language}
+use Rattle.pb_page.specs.Groups.{GroupsPageOnOutcome, IsGroupsPage, ReadsGroupsPage, TellsGroups}
+use Rattle.pb_page.specs.Sums.{files_of, sums_of}
+use Rattle.pb_page.specs.Taken.{RendersTold, status_of}
+
+pub groups-ended-at-election : (m : Measure) (l : Language) (election : Turn) (outcome : FileTurn) (why : Stop)
+    → IfTaken {A = Instance} (Err why) (Gives StatesElection election) → outcome None
+    → IfSome (settled answer_of (Err why)) (ReadsGroupsPage m l election outcome)
+groups-ended-at-election m l election outcome (stop.Refused r) given left = record {
+  of_election = given.delivery;
+  of_outcome = None;
+  answers = record { e = Err r; o = None; election_states = given.stating; outcome_states = tt; out = refl };
+  election_delivered = given.delivered;
+  outcome_delivered = left;
+}
+groups-ended-at-election m l election outcome stop.Memory given left = tt
+
+pub groups-ended-at-outcome : (m : Measure) (l : Language) (election : Turn) (outcome : FileTurn) (d : Delivery)
+    (o : Option Delivery) (e : Instance) (why : Stop) → election (Some d) → StatesElection d (Ok e) → outcome (Some o)
+    → IfTaken {A = List Bool} (Err why) (AuditsOutcome e o)
+    → IfSome (settled answer_of (Err why)) (ReadsGroupsPage m l election outcome)
+groups-ended-at-outcome m l election outcome d o e (stop.Refused r) delivered states loaded taken = record {
+  of_election = d;
+  of_outcome = o;
+  answers = record {
+    e = Ok e;
+    o = taken.file;
+    election_states = states;
+    outcome_states = taken.given;
+    out = subst
+        (λ (s : Stated (List Bool)). GroupsPageOnOutcome m l (files_of d o None) e s (answer_of (refused r)))
+        taken.is refl;
+  };
+  election_delivered = delivered;
+  outcome_delivered = loaded;
+}
+groups-ended-at-outcome m l election outcome d o e stop.Memory delivered states loaded taken = tt
+
+-- what is told by the figures of all projects
+pub tells-groups : {E : Type 0} (m : Measure) (e : Instance) (w : List Bool) (r : Result Told E) (g : ShortFigures)
+    → IfOk r (λ t. ShowsLine (groups_line g.measure e (verdict_on_groups g)) (string_bytes t.line))
+    → IfOk r (λ t. t.found ≡ found.Groups g) → AreAllFigures m e w g.groups.items → g.measure ≡ m
+    → g.shown ≡ shown g.groups.items → g.costs.items ≡ map (cost_of e) (all_projects e) → g.limit ≡ e.limit
+    → g.funded ≡ total e w → g.voters ≡ voters e → IfOk r (TellsGroups m e w)
+tells-groups m e w (Err x) g line is groups by_measure is_shown costs limit sum all = tt
+tells-groups m e w (Ok t) g line is groups by_measure is_shown costs limit sum all = record {
+  figures = g;
+  found = is;
+  line = subst (λ (k : Measure). ShowsLine (groups_line k e (verdict_on_groups g)) (string_bytes t.line)) by_measure line;
+  groups = groups;
+  measure = by_measure;
+  shown = is_shown;
+  costs = costs;
+  limit = limit;
+  total = sum;
+  voters = all;
+}
+
+-- the page, by what is told and rendered
+groups-page : (m : Measure) (l : Language) (files : List Delivery) (e : Instance) (w : List Bool) (t : Told)
+    (a : Answer Status) → TellsGroups m e w t → t.style.language ≡ l → RendersTold t (sums_of files) a
+    → IsGroupsPage m l files e w a
+groups-page m l files e w t a tells language renders =
+    let ended = renders.status ∙ ap (status_of t.mode) tells.found in
+    record {
+      told = t;
+      pieces = renders.pieces;
+      tells = tells;
+      in_language = language;
+      answers = renders.answers;
+      sums = renders.has_sums;
+      projects = subst (λ (f : CertificateFigures). ListsProjects t.mode f renders.pieces) tells.found renders.projects;
+      text = renders.text;
+      status = ended;
+      promises = subst (λ (s : Status). GroupsPromise m s e w) (sym ended) (groups-promise m e w _ tells.groups);
+    }
+
+-- both are accepted
+pub groups-answered : (m : Measure) (l : Language) (election : Turn) (outcome : FileTurn) (d : Delivery)
+    (o : Option Delivery) (e : Instance) (w : List Bool) (t : Told) (a : Answer Status) → election (Some d)
+    → StatesElection d (Ok e) → outcome (Some o) → AuditsOutcome e o (Ok w) → TellsGroups m e w t
+    → t.style.language ≡ l → RendersTold t (sums_of (files_of d o None)) a → ReadsGroupsPage m l election outcome a
+groups-answered m l election outcome d o e w t a delivered states loaded taken tells language renders = record {
+  of_election = d;
+  of_outcome = o;
+  answers = record {
+    e = Ok e;
+    o = taken.file;
+    election_states = states;
+    outcome_states = taken.given;
+    out = subst (λ (s : Stated (List Bool)). GroupsPageOnOutcome m l (files_of d o None) e s a) taken.is
+        (groups-page m l (files_of d o None) e w t a tells language renders);
+  };
+  election_delivered = delivered;
+  outcome_delivered = loaded;
+}

@@ -1,0 +1,81 @@
+"""What the Python package is told in one call, by the library and by the program: the object, what is printed, and what stands beside
+it; and the sentences on conditions and tests that it makes of the object. On the rows of the tables, on the examples, and by chance."""
+import json
+
+import pytest
+
+import calls
+import cases
+import tables
+from pbaudit import _auditor, sentences
+from test_answers import ON_EXAMPLES
+from test_json import TABLES
+
+BY_CHANCE = 300
+COMMANDS = ("read", "groups", "prices", "violation", "refutation", "both", "explain", "margins", "tidy")
+
+
+def of_tables():
+    """Each row of each table, with all of its files."""
+    for name in TABLES:
+        for row, words, files in tables.asked(name):
+            if words[0] in COMMANDS and all(each in files for each in named(words)):
+                yield pytest.param(words, files, id=f"{name}-{row.group}-{' '.join(words)}-{tables.slug(row.printed[0])}")
+
+
+def of_examples():
+    for command, *_ in ON_EXAMPLES:
+        words = command.split(" ")
+        if words[0] in COMMANDS and all((tables.EXAMPLES / each).is_file() for each in named(words)):
+            yield pytest.param(words, {each: (tables.EXAMPLES / each).read_bytes() for each in named(words)}, id=command)
+
+
+def named(words):
+    """The names of files among the words."""
+    _, names, options, _ = calls.parts(words)
+    return [*names, *([options["outcome"]] if "outcome" in options else [])]
+
+
+def check(run, auditor, program, room, words, files):
+    cases.write_files(room, files)
+    question, ran = calls.question(words, files), run(*words, cwd=room)
+    report, other = auditor.ask(question), _auditor._Program(str(program)).ask(question)
+    beside, is_object = calls.beside(words[0], ran.stdout, ran.stderr), words[0] not in ("margins", "tidy")
+    for each in (report, other):
+        assert (each.status, each.text) == (ran.returncode, ran.stdout)
+    assert report.found == other.found == (json.loads(run(*words, "--json", cwd=room).stdout) if is_object else beside["refusal"] or {})
+    assert [*report.notes] == beside["notes"]
+    if report.status < 2:
+        assert report.hint is other.hint is beside["hint"] is None
+    else:
+        line, told = beside["hint"]["line"], beside["hint"]["sentences"]
+        assert (report.hint.line, report.hint.sentences, other.hint.line) == (line, told, line)
+    if words[0] == "explain" and "--groups" not in words and report.status < 2:
+        check_sentences(report, question)
+
+
+def check_sentences(report, question):
+    """They are those of the table, whose columns docs/FORMATS.md describes."""
+    rows = [f"{each.name:12}{each.state:11}{each.sentence}" for each in sentences.rows_of(report.found, question.certificate)]
+    assert report.text.decode().split("\n\n")[1].rstrip("\n").split("\n") == rows
+
+
+@pytest.mark.parametrize("words, files", [*of_examples(), *of_tables()])
+def test_report(run, auditor, program, room, words, files):
+    check(run, auditor, program, room, words, files)
+    if words[0] in ("prices", "violation", "refutation"):
+        check(run, auditor, program, room, ["explain", *words[1:]], files)
+
+
+def test_by_chance(run, auditor, program, seed, by_chance, room):
+    """A case of which a file may be damaged."""
+    case = cases.without_folders(seed, by_chance, damaged=0.3)
+    if case.words and case.words[0] in COMMANDS:
+        check(run, auditor, program, room, case.words, case.files)
+
+
+def test_each_kind_is_tried():
+    """With an object, as a table, and refused; and each condition and test that fails first."""
+    tried = [(words[0], row.printed[0].split(" ")[0]) for name in TABLES for row, words, _ in tables.asked(name)]
+    for command in COMMANDS:
+        assert (command, "refused") in tried and any(one == command and told != "refused" for one, told in tried), command
