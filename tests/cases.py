@@ -3,9 +3,9 @@ import os
 import random
 from dataclasses import dataclass, field, replace
 
-import making
+import made_files
 import tables
-from damage import damage
+from damaged_files import damage
 
 
 @dataclass
@@ -27,75 +27,75 @@ def some_mode(chance):
     return [option for option in ("--stable", "--no-exhaustive", "--cover") if chance.random() < 0.4]
 
 
-def some_outcome(chance, town, plain):
+def some_outcome(chance, election, plain):
     """The words and the file of an outcome, in three of ten cases."""
     if chance.random() < 0.7:
         return [], {}
-    funded = town.funded
+    funded = election.funded
     if chance.random() < 0.4:
-        funded = {place for place in range(len(town.ids)) if chance.random() < 0.5}
-    return ["--outcome", "outcome.csv"], {"outcome.csv": making.outcome_file(chance, town, funded, plain)}
+        funded = {place for place in range(len(election.ids)) if chance.random() < 0.5}
+    return ["--outcome", "outcome.csv"], {"outcome.csv": made_files.outcome_file(chance, election, funded, plain)}
 
 
 def a_read(chance):
-    town, _ = making.supported(chance, False)
-    files = {"town.pb": making.election_file(chance, town, chance.random() < 0.3)}
+    election, _ = made_files.supported(chance, False)
+    files = {"town.pb": made_files.election_file(chance, election, chance.random() < 0.3)}
     if chance.random() < 0.15:
         return Case([], {}, files["town.pb"])
     return Case(["read", "town.pb"], files)
 
 
-def a_price_check(chance, election_file=making.election_file):
+def a_price_check(chance, election_file=made_files.election_file):
     """Prices that mostly support the outcome but for one small change, as a case of 'prices'."""
     mode = some_mode(chance)
-    town, claim = making.supported(chance, "--stable" in mode and chance.random() < 0.6)
+    election, claim = made_files.supported(chance, "--stable" in mode and chance.random() < 0.6)
     for _ in range(chance.choice([0, 0, 1, 1, 1, 2, 3])):
-        making.nudge(chance, town, claim)
+        made_files.nudge(chance, election, claim)
     if "--cover" in mode and chance.random() < 0.4:
         # All voter budgets together, or one less.
-        budgets = len(town.ballots) * claim.budget * making.MILLION // claim.denominator
-        town.limit = min(making.MOST_COST, max(0, budgets - chance.choice([0, 0, 1])))
+        budgets = len(election.ballots) * claim.budget * made_files.MILLION // claim.denominator
+        election.limit = min(made_files.MOST_COST, max(0, budgets - chance.choice([0, 0, 1])))
     plain = chance.random() < 0.4
-    words, files = some_outcome(chance, town, plain)
-    files["town.pb"] = election_file(chance, town, plain)
-    files["claim.csv"] = making.prices_file(chance, town, claim, plain)
+    words, files = some_outcome(chance, election, plain)
+    files["town.pb"] = election_file(chance, election, plain)
+    files["claim.csv"] = made_files.prices_file(chance, election, claim, plain)
     return Case(["prices", "town.pb", "claim.csv", *mode, *words], files)
 
 
-def a_violation_check(chance, election_file=making.election_file):
-    town, group, demand = making.a_violation(chance)
+def a_violation_check(chance, election_file=made_files.election_file):
+    election, group, demand = made_files.a_violation(chance)
     plain = chance.random() < 0.4
-    words, files = some_outcome(chance, town, plain)
+    words, files = some_outcome(chance, election, plain)
     version = b"2" if chance.random() < 0.6 else b"1"
-    files["town.pb"] = election_file(chance, town, plain)
-    files["claim.csv"] = making.violation_file(chance, town, group, demand, plain, (b"pb-violation", version))
+    files["town.pb"] = election_file(chance, election, plain)
+    files["claim.csv"] = made_files.violation_file(chance, election, group, demand, plain, (b"pb-violation", version))
     return Case(["violation", "town.pb", "claim.csv", *words], files)
 
 
-def a_refutation_check(chance, election_file=making.election_file):
+def a_refutation_check(chance, election_file=made_files.election_file):
     mode = ["--stable"] if chance.random() < 0.5 else []
-    town, weights = making.a_refutation(chance, bool(mode) and chance.random() < 0.8)
+    election, weights = made_files.a_refutation(chance, bool(mode) and chance.random() < 0.8)
     plain = chance.random() < 0.4
-    words, files = some_outcome(chance, town, plain)
-    files["town.pb"] = election_file(chance, town, plain)
-    files["claim.csv"] = making.refutation_file(chance, town, weights, plain)
+    words, files = some_outcome(chance, election, plain)
+    files["town.pb"] = election_file(chance, election, plain)
+    files["claim.csv"] = made_files.refutation_file(chance, election, weights, plain)
     return Case(["refutation", "town.pb", "claim.csv", *mode, *words], files)
 
 
-def a_groups_check(chance, election_file=making.election_file):
+def a_groups_check(chance, election_file=made_files.election_file):
     measure = chance.choice([None, "cost", "count", "count"])
-    town = making.short_group(chance, measure != "count")
+    election = made_files.short_group(chance, measure != "count")
     plain = chance.random() < 0.4
-    words, files = some_outcome(chance, town, plain)
-    files["town.pb"] = election_file(chance, town, plain)
+    words, files = some_outcome(chance, election, plain)
+    files["town.pb"] = election_file(chance, election, plain)
     return Case(["groups", "town.pb", *(["--satisfaction", measure] if measure else []), *words], files)
 
 
 def a_tidying(chance):
-    town, claim = making.supported(chance, False)
-    making.nudge(chance, town, claim)
-    files = {"town.pb": making.election_file(chance, town, chance.random() < 0.4)}
-    files["claim.csv"] = making.prices_file(chance, town, claim, False)
+    election, claim = made_files.supported(chance, False)
+    made_files.nudge(chance, election, claim)
+    files = {"town.pb": made_files.election_file(chance, election, chance.random() < 0.4)}
+    files["claim.csv"] = made_files.prices_file(chance, election, claim, False)
     return Case(["tidy", "town.pb", "claim.csv"], files)
 
 
@@ -107,20 +107,20 @@ def margins(chance):
 
 
 def both(chance):
-    """Prices and a violation of one town."""
+    """Prices and a violation of one election."""
     if chance.random() < 0.5:
-        town, group, demand = making.a_violation(chance)
-        claim = making.Claim(1, 2 * town.limit // making.MILLION, {})
+        election, group, demand = made_files.a_violation(chance)
+        claim = made_files.Claim(1, 2 * election.limit // made_files.MILLION, {})
     else:
-        town, claim = making.supported(chance, True)
-        group = {place for place in range(len(town.ballots)) if chance.random() < 0.5}
-        demand = {place for place in range(len(town.ids)) if chance.random() < 0.4}
+        election, claim = made_files.supported(chance, True)
+        group = {place for place in range(len(election.ballots)) if chance.random() < 0.5}
+        demand = {place for place in range(len(election.ids)) if chance.random() < 0.4}
     plain = chance.random() < 0.7
-    words, files = some_outcome(chance, town, plain)
-    files["town.pb"] = making.election_file(chance, town, plain)
-    files["claim.csv"] = making.prices_file(chance, town, claim, plain)
+    words, files = some_outcome(chance, election, plain)
+    files["town.pb"] = made_files.election_file(chance, election, plain)
+    files["claim.csv"] = made_files.prices_file(chance, election, claim, plain)
     head = (b"pb-violation", b"2" if chance.random() < 0.3 else b"1")
-    files["violation.csv"] = making.violation_file(chance, town, group, demand, plain, head)
+    files["violation.csv"] = made_files.violation_file(chance, election, group, demand, plain, head)
     return Case(["both", "town.pb", "claim.csv", "violation.csv", *some_mode(chance), *words], files)
 
 

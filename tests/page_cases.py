@@ -3,7 +3,7 @@ figures of all sizes."""
 import pathlib
 import random
 
-import making
+import made_files
 import tables
 from cases import (
     Case, a_groups_check, a_price_check, a_refutation_check, a_violation_check, groups, random_case, refutations, some_mode,
@@ -50,117 +50,117 @@ ODD_IDS = [
 ]  # fmt: skip
 
 
-def dressed(chance, town, plain):
+def dressed(chance, election, plain):
     """An election as a file with facts, and with names of its projects."""
     columns = list(COLUMNS)
     if chance.random() < 0.3:
         columns.insert(chance.randrange(5), chance.choice([b"name", b"Name", b"category"]))
-    records = [[b"META"], [b"key", b"value"], *facts(chance, town, plain), [b"PROJECTS"], columns]
-    for place in range(len(town.ids)):
-        row = [cell_of(chance, town, place, column, plain) for column in columns]
-        records.append(making.shortened(chance, row, plain))
+    records = [[b"META"], [b"key", b"value"], *facts(chance, election, plain), [b"PROJECTS"], columns]
+    for place in range(len(election.ids)):
+        row = [cell_of(chance, election, place, column, plain) for column in columns]
+        records.append(made_files.shortened(chance, row, plain))
     records += [[b"VOTES"], [b"voter_id", b"vote"]]
-    for voter, ballot in enumerate(town.ballots):
-        named = [town.ids[place] for place in sorted(ballot)]
-        records.append([b"%d" % (7000 - voter), making.vote(chance, named, plain)])
-    return making.join(chance, records, b";", plain)
+    for voter, ballot in enumerate(election.ballots):
+        named = [election.ids[place] for place in sorted(ballot)]
+        records.append([b"%d" % (7000 - voter), made_files.vote(chance, named, plain)])
+    return made_files.join(chance, records, b";", plain)
 
 
-def facts(chance, town, plain):
+def facts(chance, election, plain):
     """The rows of META, a few of them twice, where the first counts."""
     told = [[key, chance.choice(FACTS[key])] for key in FACTS if chance.random() < 0.4]
     if told and chance.random() < 0.2:
         key, _ = chance.choice(told)
         told += [[key.upper(), chance.choice(FACTS[key])]] if key != "num_votes" else []
-    limit = min(making.MOST_COST, town.limit)
-    rows = [[b"budget", making.amount(chance, limit, plain)], [b"vote_type", b"approval"]]
-    rows += [[making.any_case(chance, key.encode(), plain), value.encode()] for key, value in told]
+    limit = min(made_files.MOST_COST, election.limit)
+    rows = [[b"budget", made_files.amount(chance, limit, plain)], [b"vote_type", b"approval"]]
+    rows += [[made_files.any_case(chance, key.encode(), plain), value.encode()] for key, value in told]
     chance.shuffle(rows)
     return rows
 
 
-def cell_of(chance, town, place, column, plain):
+def cell_of(chance, election, place, column, plain):
     """What stands in a column for a project."""
     if column == b"project_id":
-        return town.ids[place]
+        return election.ids[place]
     if column == b"cost":
-        return making.amount(chance, town.costs[place], plain)
+        return made_files.amount(chance, election.costs[place], plain)
     if column == b"selected":
-        return making.mark(chance, place in town.funded, plain)
+        return made_files.mark(chance, place in election.funded, plain)
     return chance.choice(WORDS).encode() if chance.random() < 0.8 else b""
 
 
-def coarser(chance, town):
+def coarser(chance, election):
     """Rounds what isn't funded, and the limit, up to whole units, tenths, hundredths or thousandths."""
     unit = chance.choice([10**6, 10**6, 10**5, 10**4, 10**3])
-    for place in set(range(len(town.ids))) - town.funded:
-        town.costs[place] = -(-town.costs[place] // unit) * unit
-    town.limit = -(-town.limit // unit) * unit
+    for place in set(range(len(election.ids))) - election.funded:
+        election.costs[place] = -(-election.costs[place] // unit) * unit
+    election.limit = -(-election.limit // unit) * unit
 
 
-def muddle(chance, town, claim):
+def muddle(chance, election, claim):
     """Changes many things, so that conditions fail at several places, and by much."""
     if chance.random() < 0.4:
         claim.budget //= chance.choice([2, 3, 10, 10**6])
     for _ in range(chance.choice([0, 2, 5, 9])):
-        making.nudge(chance, town, claim)
-    for place in range(len(town.ids)):
+        made_files.nudge(chance, election, claim)
+    for place in range(len(election.ids)):
         if chance.random() < 0.1:
-            town.costs[place] = chance.choice([0, 0, 1, making.MILLION, 10**9 * making.MILLION])
+            election.costs[place] = chance.choice([0, 0, 1, made_files.MILLION, 10**9 * made_files.MILLION])
     if chance.random() < 0.3:
-        town.funded ^= {place for place in range(len(town.ids)) if chance.random() < 0.3}
+        election.funded ^= {place for place in range(len(election.ids)) if chance.random() < 0.3}
     if chance.random() < 0.3:
-        for place in range(len(town.ids)):
+        for place in range(len(election.ids)):
             odd = chance.choice(ODD_IDS)
-            town.ids[place] = town.ids[place] if odd in town.ids else odd
+            election.ids[place] = election.ids[place] if odd in election.ids else odd
     if chance.random() < 0.6:
-        coarser(chance, town)
+        coarser(chance, election)
 
 
 def muddled(chance):
     mode = some_mode(chance)
-    town, claim = making.supported(chance, chance.random() < 0.5)
-    muddle(chance, town, claim)
+    election, claim = made_files.supported(chance, chance.random() < 0.5)
+    muddle(chance, election, claim)
     plain = chance.random() < 0.6
-    words, files = some_outcome(chance, town, plain)
-    return of_prices(chance, town, claim, plain, mode + words, files)
+    words, files = some_outcome(chance, election, plain)
+    return of_prices(chance, election, claim, plain, mode + words, files)
 
 
 def close(chance):
     """Prices with nothing changed, or with one project cheaper by little, so that all holds but at most C5 or S5."""
     mode = some_mode(chance)
-    town, claim = making.supported(chance, "--stable" in mode and chance.random() < 0.3)
+    election, claim = made_files.supported(chance, "--stable" in mode and chance.random() < 0.3)
     if chance.random() < 0.6:
-        making.cheaper(chance, town, claim, 1)
+        made_files.cheaper(chance, election, claim, 1)
     if chance.random() < 0.3:
-        raised(chance, town, len(town.ballots) * claim.budget * making.MILLION // claim.denominator)
-    return of_prices(chance, town, claim, chance.random() < 0.6, mode)
+        raised(chance, election, len(election.ballots) * claim.budget * made_files.MILLION // claim.denominator)
+    return of_prices(chance, election, claim, chance.random() < 0.6, mode)
 
 
-def raised(chance, town, budgets):
+def raised(chance, election, budgets):
     """Raises the limit to what all voter budgets come to, or somewhat more, and with it all costs of what isn't
     funded."""
-    by = max(0, budgets + chance.choice([0, 1, making.MILLION]) - town.limit)
-    if by + max(town.costs, default=0) + town.limit < making.MOST_COST:
-        town.limit += by
-        for place in set(range(len(town.ids))) - town.funded:
-            town.costs[place] += by
+    by = max(0, budgets + chance.choice([0, 1, made_files.MILLION]) - election.limit)
+    if by + max(election.costs, default=0) + election.limit < made_files.MOST_COST:
+        election.limit += by
+        for place in set(range(len(election.ids))) - election.funded:
+            election.costs[place] += by
 
 
-def of_prices(chance, town, claim, plain, options=(), files=()):
-    made = {"town.pb": dressed(chance, town, plain), "claim.csv": making.prices_file(chance, town, claim, plain)}
+def of_prices(chance, election, claim, plain, options=(), files=()):
+    made = {"town.pb": dressed(chance, election, plain), "claim.csv": made_files.prices_file(chance, election, claim, plain)}
     return Case(["prices", "town.pb", "claim.csv", *options], {**made, **dict(files)})
 
 
 def without_projects(chance):
     """An election without projects, and prices or a group. There may be no voters either."""
-    voters, limit = chance.randint(0, 2), chance.choice([0, 10 * making.MILLION])
-    town = making.Town([], [], limit, set(), [set() for _ in range(voters)])
+    voters, limit = chance.randint(0, 2), chance.choice([0, 10 * made_files.MILLION])
+    election = made_files.Election([], [], limit, set(), [set() for _ in range(voters)])
     if chance.random() < 0.5:
-        claim = making.Claim(3, chance.choice([0, 10, 100]), {})
-        return of_prices(chance, town, claim, True, some_mode(chance))
-    claim = making.violation_file(chance, town, set(range(voters)), set(), True)
-    return Case(["violation", "town.pb", "claim.csv"], {"town.pb": dressed(chance, town, True), "claim.csv": claim})
+        claim = made_files.Claim(3, chance.choice([0, 10, 100]), {})
+        return of_prices(chance, election, claim, True, some_mode(chance))
+    claim = made_files.violation_file(chance, election, set(range(voters)), set(), True)
+    return Case(["violation", "town.pb", "claim.csv"], {"town.pb": dressed(chance, election, True), "claim.csv": claim})
 
 
 def dressed_prices(chance):
@@ -181,14 +181,14 @@ def dressed_groups(chance):
 
 def muddled_groups(chance):
     """Groups in an election with costs of all sizes, of which more or less is funded."""
-    town, claim = making.supported(chance, False)
-    muddle(chance, town, claim)
+    election, claim = made_files.supported(chance, False)
+    muddle(chance, election, claim)
     if chance.random() < 0.4:
-        town.funded = {place for place in town.funded if chance.random() < 0.5}
+        election.funded = {place for place in election.funded if chance.random() < 0.5}
     plain = chance.random() < 0.6
-    words, files = some_outcome(chance, town, plain)
+    words, files = some_outcome(chance, election, plain)
     measure = chance.choice([[], ["--satisfaction", "cost"], ["--satisfaction", "count"]])
-    return Case(["groups", "town.pb", *measure, *words], {"town.pb": dressed(chance, town, plain), **files})
+    return Case(["groups", "town.pb", *measure, *words], {"town.pb": dressed(chance, election, plain), **files})
 
 
 # How often each kind is made, and how often a file of it is damaged.
@@ -225,16 +225,16 @@ def renamed(chance, case, name):
 def of_rows(count, funded):
     """A case of so many projects, all funded or none, of which a table shows the first thousand."""
     ids = [b"%d" % number for number in range(count)]
-    costs = [(number * 7919 % 1009) * making.MILLION for number in range(count)]
-    town = making.Town(ids, costs, sum(costs), set(range(count)) if funded else set(), [set(range(count)), {0, 1}])
-    return of_prices(random.Random(count), town, making.Claim(3, 100, {(0, 5): 7}), True)
+    costs = [(number * 7919 % 1009) * made_files.MILLION for number in range(count)]
+    election = made_files.Election(ids, costs, sum(costs), set(range(count)) if funded else set(), [set(range(count)), {0, 1}])
+    return of_prices(random.Random(count), election, made_files.Claim(3, 100, {(0, 5): 7}), True)
 
 
 def of_demand(count):
     """A case of a group that demands so many projects."""
     case = of_rows(count, False)
-    town = making.Town([b"%d" % number for number in range(count)], [], 0, set(), [])
-    case.files["claim.csv"] = making.violation_file(random.Random(count), town, {0}, set(range(count)), True)
+    election = made_files.Election([b"%d" % number for number in range(count)], [], 0, set(), [])
+    case.files["claim.csv"] = made_files.violation_file(random.Random(count), election, {0}, set(range(count)), True)
     return Case(["violation", "town.pb", "claim.csv"], case.files)
 
 
@@ -242,40 +242,41 @@ def of_groups(count):
     """A case of so many projects of which a part is wanted, by groups of all sizes, some of which fall short."""
     chance = random.Random(f"groups {count}")
     ids = [b"%d" % number for number in range(count)]
-    costs = [(number * 7919 % 1009) * making.MILLION for number in range(count)]
+    costs = [(number * 7919 % 1009) * made_files.MILLION for number in range(count)]
     ballots = [{place for place in range(count) if chance.random() < 0.4} for _ in range(7)]
-    town = making.Town(ids, costs, 2000 * making.MILLION, {0, 1}, ballots)
-    return Case(["groups", "town.pb"], {"town.pb": dressed(chance, town, True)})
+    election = made_files.Election(ids, costs, 2000 * made_files.MILLION, {0, 1}, ballots)
+    return Case(["groups", "town.pb"], {"town.pb": dressed(chance, election, True)})
 
 
 def of_unwanted(count):
     """A case of so many projects that nobody wants, and one that is wanted."""
-    town = making.Town([b"%d" % number for number in range(count + 1)], [making.MILLION] * (count + 1), 0, set(), [{0}])
-    return Case(["groups", "town.pb", "--satisfaction", "count"], {"town.pb": dressed(random.Random(count), town, True)})
+    ids = [b"%d" % number for number in range(count + 1)]
+    election = made_files.Election(ids, [made_files.MILLION] * (count + 1), 0, set(), [{0}])
+    return Case(["groups", "town.pb", "--satisfaction", "count"], {"town.pb": dressed(random.Random(count), election, True)})
 
 
 def of_offers(count):
     """A case of so many projects for which the supporters could offer more than they cost, and have nothing left."""
     ids = [b"%d" % number for number in range(count + 1)]
-    costs = [10 * making.MILLION] + [5 * making.MILLION] * count
-    town = making.Town(ids, costs, costs[0], {0}, [set(range(count + 1))])
-    return of_prices(random.Random(count), town, making.Claim(1, 10, {(0, 0): 10}), True)
+    costs = [10 * made_files.MILLION] + [5 * made_files.MILLION] * count
+    election = made_files.Election(ids, costs, costs[0], {0}, [set(range(count + 1))])
+    return of_prices(random.Random(count), election, made_files.Claim(1, 10, {(0, 0): 10}), True)
 
 
 def of_strangers(count):
     """A case of so many voters who each pay too much for a funded project that they don't approve."""
     funded = set(range(count))
-    ids, costs = [b"%d" % number for number in range(count + 1)], [7 * making.MILLION] * (count + 1)
-    town = making.Town(ids, costs, sum(costs) - 1, funded, [{count} for _ in range(count)])
-    claim = making.Claim(3, 25, {(number, number): 20 + 7 * number for number in range(count)})
-    return of_prices(random.Random(count), town, claim, True)
+    ids, costs = [b"%d" % number for number in range(count + 1)], [7 * made_files.MILLION] * (count + 1)
+    election = made_files.Election(ids, costs, sum(costs) - 1, funded, [{count} for _ in range(count)])
+    claim = made_files.Claim(3, 25, {(number, number): 20 + 7 * number for number in range(count)})
+    return of_prices(random.Random(count), election, claim, True)
 
 
 def of_members(count):
     """A case of a group of so many who all get enough, and don't approve what the group demands."""
-    town = making.Town([b"a", b"b"], [making.MILLION] * 2, making.MILLION, {0}, [{0}] * count)
-    claim = making.violation_file(random.Random(count), town, set(range(count)), {1}, True)
-    files = {"town.pb": dressed(random.Random(count), town, True), "claim.csv": claim}
+    election = made_files.Election([b"a", b"b"], [made_files.MILLION] * 2, made_files.MILLION, {0}, [{0}] * count)
+    claim = made_files.violation_file(random.Random(count), election, set(range(count)), {1}, True)
+    files = {"town.pb": dressed(random.Random(count), election, True), "claim.csv": claim}
     return Case(["violation", "town.pb", "claim.csv"], files)
 
 

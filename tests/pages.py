@@ -82,7 +82,7 @@ def many_files(room, projects=1000, voters=2000, seed=7):
 def all_funded(election, room):
     """An outcome file in which every project is funded, which costs more than the limit."""
     path = room / "all.outcome.csv"
-    rows = [["pb-outcome", "1"], *(["project", project] for project in Town(election).costs)]
+    rows = [["pb-outcome", "1"], *(["project", project] for project in StatedElection(election).costs)]
     path.write_text("".join(",".join(row) + "\n" for row in rows), encoding="utf-8")
     return path
 
@@ -90,8 +90,8 @@ def all_funded(election, room):
 def group_of_one(election, room):
     """A violation certificate of one voter who demands all that it approves, for which its share is too small."""
     path = room / "small.violation.csv"
-    ballot = Town(election).ballots[0]
-    rows = [["pb-violation", "1"], *(["project", project] for project in Town(election).costs if project in ballot)]
+    ballot = StatedElection(election).ballots[0]
+    rows = [["pb-violation", "1"], *(["project", project] for project in StatedElection(election).costs if project in ballot)]
     path.write_text("".join(",".join(row) + "\n" for row in [*rows, ["voter", "1"]]), encoding="utf-8")
     return path
 
@@ -116,7 +116,7 @@ def cases(room):
     ]
 
 
-class Town:
+class StatedElection:
     """What an election file states, read by itself: the keys of META, the limit, the costs and names by id, the funded
     projects, and the ballots."""
 
@@ -164,7 +164,7 @@ class PriceBars:
 
     def __init__(self, files, switches):
         self.is_stable = bool(switches.get("stable"))
-        self.town = Town(files[0], *files[2:])
+        self.stated = StatedElection(files[0], *files[2:])
         _, (_, denominator), (_, budget), _, *rows = csv.reader(pbaudit.tidy(*files[:2]).decode().splitlines())
         self.budget, self.paid = Fraction(int(budget), int(denominator)), Counter()
         spent, self.top = Counter(), Counter()
@@ -173,11 +173,11 @@ class PriceBars:
             self.paid[project] += payment
             spent[int(voter)] += payment
             self.top[int(voter)] = max(self.top[int(voter)], payment)
-        self.left = {voter: self.budget - spent[voter] for voter in range(1, len(self.town.ballots) + 1)}
+        self.left = {voter: self.budget - spent[voter] for voter in range(1, len(self.stated.ballots) + 1)}
 
     def has(self, project):
         """What the supporters of a project have left, or in the stable form could offer."""
-        supporters = [voter for voter, ballot in enumerate(self.town.ballots, 1) if project in ballot]
+        supporters = [voter for voter, ballot in enumerate(self.stated.ballots, 1) if project in ballot]
         if self.is_stable:
             return sum(max(self.left[voter], self.top[voter]) for voter in supporters)
         return sum(self.left[voter] for voter in supporters)
@@ -185,39 +185,39 @@ class PriceBars:
     def bars(self):
         """The bars in the order of the page: the id of the project, the part of the width, and whether there is a
         mark."""
-        town = self.town
-        has = {project: self.has(project) for project in town.costs if project not in town.funded}
-        unfunded = sorted(has, key=lambda project: town.costs[project] - has[project])
-        funded = sorted((project for project in town.costs if project in town.funded),
-                        key=lambda project: (-abs(self.paid[project] - town.costs[project]), -town.costs[project]))
-        total = sum(town.costs[project] for project in funded)
-        yield None, total / town.limit, False
-        yield None, sum(self.paid.values()) / (self.budget * len(town.ballots)), False
+        stated = self.stated
+        has = {project: self.has(project) for project in stated.costs if project not in stated.funded}
+        unfunded = sorted(has, key=lambda project: stated.costs[project] - has[project])
+        funded = sorted((project for project in stated.costs if project in stated.funded),
+                        key=lambda project: (-abs(self.paid[project] - stated.costs[project]), -stated.costs[project]))
+        total = sum(stated.costs[project] for project in funded)
+        yield None, total / stated.limit, False
+        yield None, sum(self.paid.values()) / (self.budget * len(stated.ballots)), False
         for project in unfunded:
             # Where the cost is 0, any amount is longer than the bar.
-            yield project, MARK * max(0, has[project]) / (town.costs[project] or Fraction(1, 10**9)), True
+            yield project, MARK * max(0, has[project]) / (stated.costs[project] or Fraction(1, 10**9)), True
         for project in funded:
-            yield project, town.costs[project] / town.limit, False
+            yield project, stated.costs[project] / stated.limit, False
 
 
 class GroupBars:
     """What the bars of a page on a violation by counting have to show."""
 
     def __init__(self, files, switches):
-        self.town = Town(files[0], *files[2:])
+        self.stated = StatedElection(files[0], *files[2:])
         with open(files[1], encoding="utf-8", newline="") as file:
             rows = [row for row in csv.reader(file) if len(row) == 2]
         self.demand = [value for key, value in rows if key == "project"]
         self.group = sorted(int(value) for key, value in rows if key == "voter")
 
     def bars(self):
-        town = self.town
-        share = town.limit * len(self.group) / len(town.ballots)
-        gets = [len(town.ballots[voter - 1] & town.funded) for voter in self.group]
+        stated = self.stated
+        share = stated.limit * len(self.group) / len(stated.ballots)
+        gets = [len(stated.ballots[voter - 1] & stated.funded) for voter in self.group]
         # The first member that gets enough, or else the most that one gets.
         told = next((get for get in gets if get >= len(self.demand)), max(gets))
-        yield None, sum(town.costs[project] for project in town.funded) / town.limit, False
-        yield None, MARK * share / sum(town.costs[project] for project in self.demand), True
+        yield None, sum(stated.costs[project] for project in stated.funded) / stated.limit, False
+        yield None, MARK * share / sum(stated.costs[project] for project in self.demand), True
         yield None, MARK * Fraction(told, len(self.demand)), True
-        for project in (project for project in town.costs if project in self.demand):
-            yield project, town.costs[project] / share, False
+        for project in (project for project in stated.costs if project in self.demand):
+            yield project, stated.costs[project] / share, False

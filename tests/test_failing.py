@@ -3,7 +3,8 @@
 failing.c is preloaded, so that the Nth call of a kind fails; N goes from 1 until a run meets no failure. Each command runs on the
 examples and on a few files more. What has to come:
 
-- memory: 'fault memory' on standard error, status 4, and nothing on standard output; or the answer of an ordinary run;
+- memory: 'fault memory' on standard error, status 4, and nothing on standard output, but with 'folder --json' the objects that
+  were there; or the answer of an ordinary run;
 - open, read: 'refused INPUT 18 Read record 0' for the input of that file, with the reason as a hint, and none behind it is
   opened (notes on the election stand before the hint on another input); or the refusal of an ordinary run with another
   hint, where the file was opened again for it. A read that gives one byte changes nothing. In a folder the line of that
@@ -18,6 +19,7 @@ has to pass, or to end out of memory. A kind of call that never comes has failed
 """
 import collections
 import errno
+import json
 import mmap
 import os
 import re
@@ -183,14 +185,37 @@ def report_without(report, name):
     return "".join(f"{file}: {answer}\n" for file, answer in lines) + total, 2 if refusals else 1 if no else 0
 
 
+def objects_without(report, name):
+    """The same of a report as JSON."""
+    entries = [json.loads(line) for line in report.splitlines()[:-1]]
+    for entry in entries:
+        if name == entry["name"] + ".pb":
+            entry.update(election=unread("election"), prices=None, violation=None)
+        for kind in ("prices", "violation"):
+            if name == f"{entry['name']}.{kind}.csv" and entry[kind] and entry[kind].get("input") != "election":
+                entry[kind] = unread("certificate")
+    answers = [entry[kind]["answer"] for entry in entries for kind in ("prices", "violation") if entry[kind]]
+    refusals = answers.count("refused") + sum(entry["election"]["answer"] == "refused" for entry in entries)
+    total = {"kind": "total", "version": 1, "elections": len(entries), "yes": answers.count("yes"), "no": answers.count("no")}
+    lines = [json.dumps(each, sort_keys=True, separators=(",", ":")) + "\n" for each in (*entries, {**total, "refused": refusals})]
+    return "".join(lines), 2 if refusals else 1 if total["no"] else 0
+
+
+def unread(name):
+    """The object of a file that can't be read."""
+    return {"answer": "refused", "input": name, "kind": "refusal", "name": "Read", "number": 18, "record": 0, "version": 1}
+
+
 def is_right_in_a_folder(kind, how, words, told, said, ordinary):
     """Whether 'folder' said what it has to, where an open, a read or a listing failed."""
     if kind == "list" and how == str(errno.ENOMEM):
         return said == FAULT_MEMORY
+    is_json, report = "--json" in words, ordinary.text.decode()
     if kind == "list" or kind == "open" and told.path.endswith("/"):
         hint = f"{words[1]}: {os.strerror(int(how))}\n"
-        return said == Said(refused("folder").encode() + b"\n", hint.encode(), 2)
-    text, status = report_without(ordinary.text.decode(), os.path.basename(told.path))
+        line = json.dumps(unread("folder"), separators=(",", ":")) if is_json else refused("folder")
+        return said == Said(line.encode() + b"\n", hint.encode(), 2)
+    text, status = (objects_without if is_json else report_without)(report, os.path.basename(told.path))
     return said == Said(text.encode(), ordinary.errors, status)
 
 
@@ -214,6 +239,9 @@ def is_right(kind, how, words, told, said, ordinary):
     """Whether the program said what it has to, where one call failed."""
     same_answer = (said.text, said.status) == (ordinary.text, ordinary.status)
     if kind == "memory":
+        if words[:1] == ["folder"] and "--json" in words and said._replace(text=b"") == FAULT_MEMORY:
+            objects = ordinary.text.splitlines(keepends=True)
+            return said.text in [b"".join(objects[:count]) for count in range(len(objects))]
         # Without memory for them, a hint or notes aren't there.
         return said in (FAULT_MEMORY, ordinary) or (same_answer and said.errors in (b"", *notes_and_hint(ordinary)))
     if kind == "look":

@@ -1,8 +1,10 @@
 """What `pbaudit folder` prints and tells, that examples/many.sh does the same by many processes, and the Python package with pages."""
 import contextlib
+import fcntl
 import os
 import pathlib
 import pty
+import select
 import shutil
 import subprocess
 import sys
@@ -257,6 +259,22 @@ def test_terminal_is_told_how_far_it_is(program, room, names, shown, beside):
     lines = [f"\r\x1b[K{number} of {len(shown)}: {name}.pb" for number, name in enumerate(shown, 1)]
     assert told == "".join(lines) + "\r\x1b[K" + beside
     assert (ran.stdout.count(b"\n"), ran.returncode) == (len(names) + 1, 0)
+
+
+@pytest.mark.parametrize("more, last", [([], "99.pb: read 3 voters 3 projects 2 funded"), (["--json"], '"name":"Read"')])
+def test_each_object_is_written_before_the_next_election_is_read(program, room, more, last):
+    """A full pipe keeps the program from going on, so the last election is gone before it is read. The lines are written once
+    they are all there."""
+    fill(room, {f"{number:02}.pb": SAMPLE for number in range(100)})
+    ours, theirs = os.pipe()
+    fcntl.fcntl(ours, fcntl.F_SETPIPE_SZ, 4096)
+    words = [program, "folder", room, *more]
+    with subprocess.Popen(words, stdin=subprocess.DEVNULL, stdout=theirs, stderr=subprocess.DEVNULL), open(ours, "rb") as out:
+        os.close(theirs)
+        select.select([out], [], [])
+        (room / "99.pb").unlink()
+        lines = out.read().decode().splitlines()
+    assert (len(lines), last in lines[-2]) == (101, True), lines[-2]
 
 
 def elections(folder):

@@ -11,7 +11,7 @@ import tempfile
 import pytest
 
 import cases
-import making
+import made_files
 import saying
 import tables
 from common import HERE, TOP, needs
@@ -56,14 +56,15 @@ def a_read(chance):
 
 
 def a_small_refutation(chance):
-    """Small weights of a small town, which often refute stable prices alone."""
+    """Small weights of a small election, which often refute stable prices alone."""
     ids = [b"a", b"b", b"c", b"d"][:chance.randint(2, 4)]
-    costs = [chance.randint(0, 5) * making.MILLION for _ in ids]
+    costs = [chance.randint(0, 5) * made_files.MILLION for _ in ids]
     funded = {place for place in range(len(ids) - 1) if chance.random() < 0.8}
     ballots = [{place for place in range(len(ids)) if chance.random() < 0.8} for _ in range(chance.randint(1, 4))]
-    town = making.Town(ids, costs, chance.randint(0, 12) * making.MILLION, funded, ballots)
-    weights = making.Weights(chance.choice([0, 0, 1, 2]), {place: chance.randint(0, 3) for place in range(len(ids))})
-    files = {"town.pb": making.election_file(chance, town, True), "claim.csv": making.refutation_file(chance, town, weights, True)}
+    election = made_files.Election(ids, costs, chance.randint(0, 12) * made_files.MILLION, funded, ballots)
+    weights = made_files.Weights(chance.choice([0, 0, 1, 2]), {place: chance.randint(0, 3) for place in range(len(ids))})
+    files = {"town.pb": made_files.election_file(chance, election, True),
+             "claim.csv": made_files.refutation_file(chance, election, weights, True)}
     return cases.Case([chance.choice(["refutation", "explain"]), "town.pb", "claim.csv", "--stable"], files)
 
 

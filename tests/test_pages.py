@@ -73,7 +73,7 @@ class Page:
         self.line = str(pbaudit.explain(*files, **switches).verdict)
         self.is_violation = "violation" in files[1].name
         figures = (GroupBars if self.is_violation else PriceBars)(files, switches)
-        self.town, self.bars = figures.town, list(figures.bars())
+        self.stated, self.bars = figures.stated, list(figures.bars())
         self.headline = HEADLINES[name]
         pbaudit.write_page(*files[:2], outcome=files[2] if files[2:] else None, path=folder / self.file, **asked)
 
@@ -186,7 +186,7 @@ def test_nothing_is_fetched(opened):
 def test_answer(opened):
     """The answer, the line of the program, and the language."""
     browser, url, page = opened
-    title = f"{shortened(shown(page.town.meta.get('description', page.files[0].name)))} \u2013 {page.headline}"
+    title = f"{shortened(shown(page.stated.meta.get('description', page.files[0].name)))} \u2013 {page.headline}"
     assert browser.title() == title
     assert browser.ask("return document.querySelector('.answer h2').textContent") == page.headline
     line = browser.ask("return [...document.querySelectorAll('footer code')].pop().textContent")
@@ -208,16 +208,16 @@ def test_names(opened):
     rows = browser.ask("return [...document.querySelectorAll('tbody th')].map(head => "
                        "[...head.querySelectorAll('.name, .id bdi')].map(each => each.textContent))")
     for (project, _, _), told in zip(filter(of_project, page.bars), rows):
-        assert told == [shortened(shown(text)) for text in (page.town.names[project], project) if text]
+        assert told == [shortened(shown(text)) for text in (page.stated.names[project], project) if text]
     assert browser.ask(LOOSE_NAMES) == 0
     found = browser.ask("return [...document.querySelectorAll('th .name bdi, .id bdi, h1 bdi')].map(each => each.lang)")
-    assert set(found) == {language_of(page.town.meta)}
+    assert set(found) == {language_of(page.stated.meta)}
 
 
 def test_currency(opened):
     """Beside each amount stands the currency, where the election has one."""
     browser, url, page = opened
-    currency = page.town.meta.get("currency")
+    currency = page.stated.meta.get("currency")
     bare = browser.ask(BARE_AMOUNTS, currency) if currency else []
     assert not bare
 
@@ -310,8 +310,8 @@ def test_orders(opened):
     if not ids:
         assert not browser.ask("return document.querySelectorAll('.sort').length")
         return
-    supporters = Counter(project for ballot in page.town.ballots for project in ballot)
-    for choice, key in (("closest", None), ("dearest", page.town.costs), ("supported", supporters)):
+    supporters = Counter(project for ballot in page.stated.ballots for project in ballot)
+    for choice, key in (("closest", None), ("dearest", page.stated.costs), ("supported", supporters)):
         browser.ask(f"document.querySelector('.{choice}').click()")
         wanted = sorted(ids, key=lambda project: -key[project]) if key else ids
         assert browser.ask(SEEN_ORDER) == [shortened(shown(project)) for project in wanted]

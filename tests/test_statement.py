@@ -2,7 +2,7 @@
 STATEMENT in the README.
 
 A quote is a block of lines indented by four blanks. Its file is the last path (`crates/..`) in the last paragraph before it that is
-no quote. Of a file of definitions (.antt) a block has whole definitions, one after another, without the comments before them and
+no quote. Of a file of definitions (.antt) a block has whole definitions, one after another, without their lines of comments and
 without the head `abbrev pub NAME : KIND`; of a source (.rt) it has whole lines. Where lines are broken doesn't matter. Each name in
 the quotes of STATEMENT is defined in one of them, or stands in its words.
 """
@@ -46,13 +46,12 @@ def without_head(words):
 
 
 def definitions(text):
-    """The words of each definition of a file: a paragraph without the comments that it begins with, and without its head."""
+    """The words of each definition of a file: a paragraph without its lines of comments, and without its head."""
     found = []
     for _, paragraph in paragraphs(text.splitlines()):
-        while paragraph and paragraph[0].startswith("--"):
-            paragraph = paragraph[1:]
-        if paragraph:
-            found.append(without_head(" ".join(paragraph).split()))
+        lines = [line for line in paragraph if not line.lstrip().startswith("--")]
+        if lines:
+            found.append(without_head(" ".join(lines).split()))
     return found
 
 

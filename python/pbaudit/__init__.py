@@ -26,8 +26,8 @@ from ._version import VERSION
 if TYPE_CHECKING:
     from .amounts import TooManyDenominators
     from .auditing import (
-        Explanation, Finding, ProjectMargins, Refusal, Summary, Verdict, audit_both, audit_prices, audit_refutation,
-        audit_violation, explain, margins, read, tidy,
+        Explanation, Finding, NearestGroup, ProjectMargins, Refusal, Summary, Verdict, audit_both, audit_prices,
+        audit_refutation, audit_violation, explain, margins, read, tidy,
     )
     from .certificates import PriceCertificate, price_certificate
     from .elections import Instance, Project
@@ -52,8 +52,8 @@ __version__ = VERSION
 __all__ = [
     "CannotKeep", "EqualShares", "Explanation", "FileResult", "Finding", "FolderReport", "Found", "FoundFolder",
     "FoundPrices", "FoundRefutation", "FoundRow", "FoundViolation", "GroupFigures", "GroupMargins",
-    "GroupsExplanation", "GroupsVerdict", "Instance", "NotReplaced", "PriceCertificate", "PriceSystem", "Project",
-    "ProjectMargins", "Refusal", "Relaxation", "ShortGroup", "Stopped", "Summary", "TooManyDenominators", "Verdict",
+    "GroupsExplanation", "GroupsVerdict", "Instance", "NearestGroup", "NotReplaced", "PriceCertificate", "PriceSystem",
+    "Project", "ProjectMargins", "Refusal", "Relaxation", "ShortGroup", "Stopped", "Summary", "TooManyDenominators", "Verdict",
     "audit_both", "audit_folder", "audit_groups", "audit_prices", "audit_refutation", "audit_violation",
     "equal_shares", "explain", "explain_groups", "find", "find_folder", "group_margins", "groups_page",
     "groups_that_fall_short", "largest_voter_budget", "margins", "page", "price_certificate", "read",
@@ -63,8 +63,8 @@ __all__ = [
 # The parts are loaded when they are first used, since an import of all takes long beside an audit.
 _PARTS = {
     "amounts": ("TooManyDenominators",),
-    "auditing": ("Explanation", "Finding", "ProjectMargins", "Refusal", "Summary", "Verdict", "audit_both",
-                 "audit_prices", "audit_refutation", "audit_violation", "explain", "margins", "read", "tidy"),
+    "auditing": ("Explanation", "Finding", "NearestGroup", "ProjectMargins", "Refusal", "Summary", "Verdict",
+                 "audit_both", "audit_prices", "audit_refutation", "audit_violation", "explain", "margins", "read", "tidy"),
     "certificates": ("PriceCertificate", "price_certificate"),
     "elections": ("Instance", "Project"),
     "finding": ("find", "find_folder", "largest_voter_budget", "smallest_relaxation"),

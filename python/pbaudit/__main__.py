@@ -128,7 +128,7 @@ def _add_equal_shares(commands: "argparse._SubParsersAction[_Parser]") -> None:
                                  description=WHAT_SHARES_DO, epilog=HOW_SHARES_END, allow_abbrev=False)
     shares.add_argument("election", metavar="ELECTION", help="an election file")
     shares.add_argument("-o", "--output", metavar="CERTIFICATE", help="the price certificate to write; the outcome "
-                        "file beside it ends with .outcome.csv instead of .prices.csv")
+                        "file beside it ends with .outcome.csv instead of .prices.csv, and never replaces another outcome")
     shares.add_argument("--by", choices=MEASURES, default="cost", help="what a project is worth to each supporter: its "
                         "cost, which is the default, or 1")
     shares.add_argument("--completion", choices=COMPLETIONS, default="none", help="add1 raises the budget of each "
@@ -211,13 +211,18 @@ def _audit(given: argparse.Namespace) -> int:
 
 
 def _folder(given: argparse.Namespace) -> int:
+    status = 0
     try:
         os.listdir(given.folder)
-        lines, status = audited_folder(given)
+        for text, status in audited_folder(given):
+            if _told([text], status) != status:
+                return FAULT
         notes = left_out(given.folder, "audited")
     except OSError as unlisted:
         return _refused(refusal_for(given, unread_of("folder")), _reason(unlisted))
-    return _found(Answer(lines, status, notes=notes))
+    for note in notes:
+        _tell(note)
+    return status
 
 
 def _page(given: argparse.Namespace) -> int:

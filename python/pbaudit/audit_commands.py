@@ -6,13 +6,18 @@ import signal
 import subprocess
 import sys
 from functools import partial
-from typing import Any, Dict, List, NoReturn, Optional, Tuple
+from typing import TYPE_CHECKING, Any, Dict, Generator, Iterator, List, NoReturn, Optional, Tuple
 
 from ._auditor import Mode, Question
 from ._places import module, program
 from .auditing import asked_in_turn
 from .objects import Found, line_of, text_of_object
 from .shown import shown
+
+if TYPE_CHECKING:
+    from concurrent.futures import Executor
+
+    from .folders import Entry
 
 COMMANDS = {
     "read": "reads an election and prints how many voters and projects it has",
@@ -153,21 +158,40 @@ def refusal(given: argparse.Namespace, found: Found) -> str:
     return text_of_object(found) if vars(given).get("json") else line_of(found)
 
 
-def audited_folder(given: argparse.Namespace) -> Tuple[List[str], int]:
-    """The lines on a folder, or its objects, and the status. Raises OSError where it can't be listed."""
+def audited_folder(given: argparse.Namespace) -> Iterator[Tuple[str, int]]:
+    """The lines on a folder, or its objects, each once it is there: a text, and the status, which is that of the last. Raises
+    OSError where it can't be listed."""
     from concurrent.futures import ProcessPoolExecutor
-    from contextlib import ExitStack
+    from contextlib import ExitStack, closing
 
-    from .folders import audit_folder, entries_of, entry_object, total_object
+    from .folders import audit_folder, entries_of, total_object
     mode = mode_of(given)
+    found: List[Found] = []
     with ExitStack() as stack:
         # The keyboard stops this process, and that these.
         pool = partial(ProcessPoolExecutor, initializer=signal.signal, initargs=(signal.SIGINT, signal.SIG_IGN))
         executor = stack.enter_context(pool(given.workers)) if given.workers else None
         if not given.json:
             report = audit_folder(given.folder, executor, **vars(mode))
-            return [report.text.rstrip("\n")], report.status
-        entries = entries_of(given.folder, mode)
-        found = list(executor.map(entry_object, entries) if executor else map(entry_object, entries))
+            yield report.text.rstrip("\n"), report.status
+            return
+        for each in stack.enter_context(closing(_objects(entries_of(given.folder, mode), executor))):
+            found.append(each)
+            yield text_of_object(each), 0
     total = total_object(found)
-    return [text_of_object(each) for each in (*found, total)], 2 if total["refused"] else 1 if total["no"] else 0
+    yield text_of_object(total), 2 if total["refused"] else 1 if total["no"] else 0
+
+
+def _objects(entries: "List[Entry]", executor: "Optional[Executor]") -> Generator[Found, None, None]:
+    """The object of each entry, each once it is there. Whoever asks for no more waits for none."""
+    from .folders import entry_object
+    if executor is None:
+        yield from map(entry_object, entries)
+        return
+    asked = [executor.submit(entry_object, entry) for entry in entries]
+    try:
+        for each in asked:
+            yield each.result()
+    finally:
+        for each in asked:
+            each.cancel()

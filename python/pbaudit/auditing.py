@@ -16,16 +16,16 @@ from typing import Any, ClassVar, Dict, List, Literal, Optional, Tuple
 from ._auditor import Hint, Mode, PageWords, Question, Report, Satisfaction, ask
 from .files import MOST_BYTES, File, bytes_of, path_of
 from .kept import Kept, keep, source_of, stamp_of
-from .objects import Found, election_notes, line_of
+from .objects import Found, amount_of, election_notes, line_of
 from .records import records
 from .sentences import rows_of
 from .shown import visible
 from .tables import Result
 
 __all__ = [
-    "MOST_BYTES", "Asked", "Explanation", "File", "Finding", "ProjectMargins", "Refusal", "Summary", "Verdict", "answered",
-    "audit_both", "audit_prices", "audit_refutation", "audit_violation", "bytes_of", "explain", "margins", "read", "tidy",
-    "verdict",
+    "MOST_BYTES", "Asked", "Explanation", "File", "Finding", "NearestGroup", "ProjectMargins", "Refusal", "Summary",
+    "Verdict", "answered", "audit_both", "audit_prices", "audit_refutation", "audit_violation", "bytes_of", "explain",
+    "margins", "read", "tidy", "verdict",
 ]
 OnGroups = Literal["strict", "weak", "little"]
 Refutes = Literal["all", "with Cover", "stable", "stable with Cover"]
@@ -186,10 +186,27 @@ class Finding(Result):
 
 
 @dataclass(frozen=True)
+class NearestGroup(Result):
+    """The supporters of an unfunded `project` who come nearest to what a yes to prices says of every group: how many there
+    are, their `share` of the limit, what the project costs, and what was funded that at least one of them approves.
+    Amounts are exact, in the currency.
+
+    >>> explain("town.pb", "town.prices.csv").nearest.share
+    Fraction(10, 3)
+    """
+
+    project: str
+    supporters: int
+    share: Fraction
+    cost: Fraction
+    funded_for: Fraction
+
+
+@dataclass(frozen=True)
 class Explanation(Result):
     r"""What each condition comes to, in their order, with the answer to the audit itself, and true where that is.
     `groups` has, of a yes to prices, a sentence on what it says of every group, and one on the unfunded project whose
-    supporters come nearest to what that compares. `str` is the text that the program prints.
+    supporters come nearest to what that compares; `nearest` has its figures. `str` is the text that the program prints.
 
     >>> str(explain("town.pb", "town.prices.csv")).split("\n")[0]
     'supported priceable'
@@ -199,6 +216,7 @@ class Explanation(Result):
     findings: Tuple[Finding, ...]
     text: str
     groups: Tuple[str, ...] = ()
+    nearest: Optional[NearestGroup] = None
 
     def rows_of_table(self) -> List[Dict[str, Any]]:
         """A row for each condition."""
@@ -347,7 +365,14 @@ def _explanation(verdict: Verdict, question: Question, report: Report) -> Explan
     text = report.text.decode("utf-8")
     # A line for each finding stands between two that are empty, behind the verdict. The rest is on groups.
     groups = text.rstrip("\n").split("\n")[len(findings) + 3:]
-    return Explanation(verdict, findings, text, tuple(groups))
+    return Explanation(verdict, findings, text, tuple(groups), _nearest(report.found.get("nearest")))
+
+
+def _nearest(found: Optional[Found]) -> Optional[NearestGroup]:
+    if found is None:
+        return None
+    return NearestGroup(found["project"], found["supporters"], amount_of(found["share"]), amount_of(found["cost"]),
+                        amount_of(found["funded_for"]))
 
 
 def tidy(election: File, certificate: File) -> bytes:

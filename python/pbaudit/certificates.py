@@ -11,6 +11,7 @@ from .amounts import (
     own, ratio,
 )
 from .auditing import audit_prices
+from .decided import DecidedElection
 from .files import Path, checked_path, write_to
 from .matrices import AT_ONCE, check_rows
 from .noise import NOISE, SURE, Conditions, left_out_told, spent_by
@@ -18,7 +19,6 @@ from .records import records
 from .rounding import CannotKeep, Given, LeftOut, Rounding
 from .settling import SECONDS, Settling, clock_of
 from .tables import PriceSystem, Result
-from .town import Town
 from .values import (
     AnyInstance, AnyProject, NearPaymentFunction, Payments, Profile, Projects, ballots_of, check_count, funded_of,
     projects_of, with_each_voter,
@@ -122,23 +122,23 @@ def price_certificate(instance: AnyInstance, profile: Profile, budget_allocation
     projects, costs, limit = projects_of(instance)
     funded = funded_of(budget_allocation, projects)
     ballots, payments = ballots_of(profile, projects), Payments(payment_functions, projects)
-    town = Town(projects.ids, costs, limit, set(funded), ballots)
+    decided = DecidedElection(projects.ids, costs, limit, set(funded), ballots)
     wanted = None if denominator is None else _whole(denominator)
-    return certified(town, projects, voter_budget, payments, mode.stable, mode.exhaustive, wanted, clock=clock)
+    return certified(decided, projects, voter_budget, payments, mode.stable, mode.exhaustive, wanted, clock=clock)
 
 
-def certified(town: Town, projects: Projects, voter_budget: Optional[NearAmount], payments: Payments, stable: bool,
-              exhaustive: bool, wanted: Optional[int] = None, is_near: bool = False,
+def certified(decided: DecidedElection, projects: Projects, voter_budget: Optional[NearAmount], payments: Payments,
+              stable: bool, exhaustive: bool, wanted: Optional[int] = None, is_near: bool = False,
               clock: "Optional[Clock]" = None) -> PriceCertificate:
     """The certificate that `price_certificate` answers; or, where `is_near`, one of the election by `scale_of` whose
     payments and voter budget are off by no more than noise. Without a clock it may take as long as by default."""
-    scale = scale_of(town, payable(voter_budget, "the voter budget")) if is_near else 1
+    scale = scale_of(decided, payable(voter_budget, "the voter budget")) if is_near else 1
     # This also refuses what no election has.
-    election = scaled_election(town, projects, scale)
-    _check_outcome(town, exhaustive)
-    given = _given(town, projects, voter_budget, payments, is_near)
-    _check_given(town, given, stable, is_near)
-    rounding = _rounded(town, given, stable, wanted, is_near, scale, clock or clock_of())
+    election = scaled_election(decided, projects, scale)
+    _check_outcome(decided, exhaustive)
+    given = _given(decided, projects, voter_budget, payments, is_near)
+    _check_given(decided, given, stable, is_near)
+    rounding = _rounded(decided, given, stable, wanted, is_near, scale, clock or clock_of())
     certificate = _certificate(rounding, given, projects, scale)
     verdict = audit_prices(election, certificate.file, stable=stable, exhaustive=exhaustive)
     if not verdict:
@@ -147,20 +147,20 @@ def certified(town: Town, projects: Projects, voter_budget: Optional[NearAmount]
     return replace(certificate, status=str(verdict))
 
 
-def scaled_election(town: Town, projects: Projects, scale: int) -> bytes:
+def scaled_election(decided: DecidedElection, projects: Projects, scale: int) -> bytes:
     """The election as a file whose unit is so many times smaller. No condition depends on the unit."""
-    costs = [cost * scale for cost in town.costs]
-    return election_file(projects, costs, town.limit * scale, town.ballots, town.funded)
+    costs = [cost * scale for cost in decided.costs]
+    return election_file(projects, costs, decided.limit * scale, decided.ballots, decided.funded)
 
 
-def scale_of(town: Town, budget: Fraction) -> int:
+def scale_of(decided: DecidedElection, budget: Fraction) -> int:
     """How many times smaller the unit of files is for prices near given ones, so that they can state the costs, and
     that rounding moves payments by less than noise, as far as the largest cost allows."""
-    amounts = [*town.costs, town.limit]
+    amounts = [*decided.costs, decided.limit]
     scale, most = common_denominator(amount * MILLION for amount in amounts), max(amounts) or Fraction(1)
     if most * scale > MOST_COST:
         return 1
-    parts = [budget, *(town.costs[project] / (len(town.slots[project]) + 1) for project in town.funded)]
+    parts = [budget, *(decided.costs[project] / (len(decided.slots[project]) + 1) for project in decided.funded)]
     least = min((part for part in parts if part > 0), default=Fraction(1))
     while least * NOISE * MOST_DENOMINATOR * scale < FINE and most * scale * 10 * HEADROOM <= MOST_COST:
         scale *= 10
@@ -173,42 +173,42 @@ def _whole(denominator: object) -> int:
     return own(denominator)
 
 
-def _check_outcome(town: Town, exhaustive: bool) -> None:
+def _check_outcome(decided: DecidedElection, exhaustive: bool) -> None:
     """What no payments can change."""
-    total = sum((town.costs[project] for project in town.funded), Fraction(0))
-    if total > town.limit:
-        raise CannotKeep("Feasible", f"the funded projects cost {total}, and the limit is {town.limit}")
-    for project in town.unfunded if exhaustive else ():
-        if total + town.costs[project] <= town.limit:
-            name = town.names[project]
+    total = sum((decided.costs[project] for project in decided.funded), Fraction(0))
+    if total > decided.limit:
+        raise CannotKeep("Feasible", f"the funded projects cost {total}, and the limit is {decided.limit}")
+    for project in decided.unfunded if exhaustive else ():
+        if total + decided.costs[project] <= decided.limit:
+            name = decided.names[project]
             told = f"{name} could be added within the limit (exhaustive=False leaves this out)"
             raise CannotKeep("Exhaustive", told, project=name)
 
 
-def _given(town: Town, projects: Projects, voter_budget: Optional[NearAmount], payments: Payments,
+def _given(decided: DecidedElection, projects: Projects, voter_budget: Optional[NearAmount], payments: Payments,
            is_near: bool) -> Given:
     """The payments by slot, without those that are none where there should be none."""
-    check_count(len(town.ballots), len(payments.functions))
-    amounts, floats, left_out = _amounts_by_slot(town, projects, payments)
-    budget = _most(town, amounts, floats) if voter_budget is None else payable(voter_budget, "the voter budget")
+    check_count(len(decided.ballots), len(payments.functions))
+    amounts, floats, left_out = _amounts_by_slot(decided, projects, payments)
+    budget = _most(decided, amounts, floats) if voter_budget is None else payable(voter_budget, "the voter budget")
     is_exact = not (is_near or payments.has_floats or is_float(voter_budget))
     below = max(-budget, Fraction(0))
-    if below > (0 if is_exact else town.limit / max(1, len(town.ballots)) * NOISE):
+    if below > (0 if is_exact else decided.limit / max(1, len(decided.ballots)) * NOISE):
         raise ValueError("the voter budget is below 0")
     noise = Fraction(0) if is_exact else (budget + below) * NOISE
     return Given(amounts, floats, budget + below, noise, below, payments.kinds == {float}, is_exact, left_out)
 
 
-def _check_given(town: Town, given: Given, stable: bool, is_near: bool) -> None:
+def _check_given(decided: DecidedElection, given: Given, stable: bool, is_near: bool) -> None:
     """Raises CannotKeep where the payments as they were given fail a condition: that isn't a matter of rounding. C5 and
     S5 are those by the given budget; but where floats are made a certificate of, by the lowest that they allow."""
-    conditions = Conditions(town, given, stable, float(given.budget))
+    conditions = Conditions(decided, given, stable, float(given.budget))
     if not (is_near or given.is_exact):
         conditions.budget = min(conditions.budget, max(conditions.spent, default=0.0))
     conditions.check()
 
 
-def _amounts_by_slot(town: Town, projects: Projects,
+def _amounts_by_slot(decided: DecidedElection, projects: Projects,
                      payments: Payments) -> Tuple[List[Any], "array[float]", List[LeftOut]]:
     """What is paid in each slot, as it was given and as a float; and the payments that are left out."""
     amounts: List[Any] = []
@@ -217,10 +217,10 @@ def _amounts_by_slot(town: Town, projects: Projects,
         what = f"voter {voter + 1} pays for"
         places = projects.once(projects.places(function, what), what)
         mine: Dict[int, Any] = dict(zip(places, payments.own(voter + 1, function)))
-        slots = town.slots_of(voter)
-        expected = town.project_of[slots.start:slots.stop]
+        slots = decided.slots_of(voter)
+        expected = decided.project_of[slots.start:slots.stop]
         if not _is_in_place(mine, expected):
-            odd = [LeftOut(voter, *each) for each in _misplaced(town, voter, mine)]
+            odd = [LeftOut(voter, *each) for each in _misplaced(decided, voter, mine)]
             left_out += odd
             for each in odd:
                 del mine[each.project]
@@ -241,17 +241,17 @@ def _is_in_place(mine: Dict[int, Any], expected: Sequence[int]) -> bool:
     return is_amount and mine.keys() <= set(expected)
 
 
-def _misplaced(town: Town, voter: int, mine: Dict[int, Any]) -> Iterator[Tuple[int, Fraction, str]]:
+def _misplaced(decided: DecidedElection, voter: int, mine: Dict[int, Any]) -> Iterator[Tuple[int, Fraction, str]]:
     """What a voter (from 0) pays where a certificate has nothing: the projects, the amounts, and the conditions that
     these break where they are more than noise. Raises CannotKeep for what isn't approved, however little it is."""
-    ballot = set(town.ballots[voter])
+    ballot = set(decided.ballots[voter])
     for at, given in mine.items():
-        amount = payable(given, f"what voter {voter + 1} pays for {town.names[at]}")
+        amount = payable(given, f"what voter {voter + 1} pays for {decided.names[at]}")
         if amount < 0:
             yield at, amount, "C2"
         elif amount and at not in ballot:
-            raise left_out_told(town, LeftOut(voter, at, amount, "C1"))
-        elif amount and at not in town.funded:
+            raise left_out_told(decided, LeftOut(voter, at, amount, "C1"))
+        elif amount and at not in decided.funded:
             yield at, amount, "C4"
 
 
@@ -263,21 +263,21 @@ def payable(amount: object, what: str) -> Fraction:
     return exact
 
 
-def _most(town: Town, amounts: Sequence[Any], floats: "array[float]") -> Fraction:
+def _most(decided: DecidedElection, amounts: Sequence[Any], floats: "array[float]") -> Fraction:
     """The most that a voter spends, exactly."""
-    spent = spent_by(town, floats)
+    spent = spent_by(decided, floats)
     near_most = max(spent, default=0.0) * (1 - SURE)
-    sums = (sum((near(amounts[slot], "a payment") for slot in town.slots_of(voter)), Fraction(0))
+    sums = (sum((near(amounts[slot], "a payment") for slot in decided.slots_of(voter)), Fraction(0))
             for voter, rounded in enumerate(spent) if rounded >= near_most)
     return max(sums, default=Fraction(0))
 
 
-def _rounded(town: Town, given: Given, stable: bool, denominator: Optional[int], is_near: bool, scale: int,
+def _rounded(decided: DecidedElection, given: Given, stable: bool, denominator: Optional[int], is_near: bool, scale: int,
              clock: "Clock") -> Rounding:
     """The first denominator by which all conditions can be kept, with numerators over it; the finest first where they
     are to be as near as can be. Numerators are in a unit that is so many times smaller."""
     # Funded projects are paid for exactly, so their costs are whole numbers over each denominator.
-    unit = common_denominator(town.costs[project] * scale for project in town.funded)
+    unit = common_denominator(decided.costs[project] * scale for project in decided.funded)
     if denominator is not None:
         _check_denominator(denominator, unit)
     exact = _exact_denominator(given)
@@ -289,7 +289,7 @@ def _rounded(town: Town, given: Given, stable: bool, denominator: Optional[int],
         part = _exact_denominator(simple)
         tried = MOST_DENOMINATOR + 1 if part is None else least_multiple((unit, part, simple.budget.denominator))
         return tried if tried <= MOST_DENOMINATOR else None
-    settling = Settling(town, given, stable, is_near, scale, clock)
+    settling = Settling(decided, given, stable, is_near, scale, clock)
     return settling.settled(denominators, of_simple if denominator is None and exact is None else None)
 
 
@@ -335,7 +335,7 @@ def _certificate(rounding: Rounding, given: Given, projects: Projects, scale: in
     moved, raised = _farthest(rounding, given), Fraction(rounding.budget, rounding.denominator) - given.budget + given.below
     denominator = rounding.denominator // scale
     file = price_file(denominator, rounding.budget, projects, _payers(rounding))
-    return PriceCertificate(denominator, rounding.budget, moved, raised, file, len(rounding.town.ballots))
+    return PriceCertificate(denominator, rounding.budget, moved, raised, file, len(rounding.decided.ballots))
 
 
 def _farthest(rounding: Rounding, given: Given) -> Fraction:
@@ -357,7 +357,7 @@ def _farthest(rounding: Rounding, given: Given) -> Fraction:
 
 
 def _payers(rounding: Rounding) -> Payers:
-    town = rounding.town
+    decided = rounding.decided
     for start in range(0, len(rounding.paid), AT_ONCE):
         these = slice(start, start + AT_ONCE)
-        yield [voter + 1 for voter in town.voter_of[these]], town.project_of[these], rounding.paid[these]
+        yield [voter + 1 for voter in decided.voter_of[these]], decided.project_of[these], rounding.paid[these]

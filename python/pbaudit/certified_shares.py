@@ -1,4 +1,5 @@
 """The command `equal-shares`: an outcome of the Method of Equal Shares with a certificate, and what of it holds."""
+import errno
 import os
 import shlex
 import sys
@@ -13,11 +14,11 @@ from ._places import command
 from .amounts import MILLION, money
 from .auditing import Explanation
 from .certificates import PriceCertificate, certified
+from .decided import DecidedElection
 from .election_files import Election, election_of
 from .files import bytes_of, write_to
 from .shares import EqualShares, Progress, Rule, result
 from .shown import is_hidden, shown, visible
-from .town import Town
 from .values import Payments
 from .writing import write_outcome
 
@@ -105,9 +106,9 @@ def certify(path: str, by: str, completion: str, increment: Fraction) -> Certifi
     rule = Rule(election.costs, election.limit, election.ballots, by)
     shares = result(election.projects, rule, *rule.completed(completion, increment, _Teller(rule.voters)))
     funded = {election.projects.place[name] for name in shares.funded}
-    town = Town(election.projects.ids, election.costs, election.limit, funded, election.ballots)
+    decided = DecidedElection(election.projects.ids, election.costs, election.limit, funded, election.ballots)
     payments = Payments(shares.payments)
-    certificate = certified(town, election.projects, shares.voter_budget, payments, stable=False, exhaustive=False)
+    certificate = certified(decided, election.projects, shares.voter_budget, payments, stable=False, exhaustive=False)
     outcome = write_outcome(shares.funded)
     plain, stable = (auditing.explain(data, certificate.file, outcome, stable=stable, cover=True)
                      for stable in (False, True))
@@ -122,12 +123,17 @@ def outcome_path(certificate: str) -> str:
 
 
 def write_files(made: Certified, certificate: str) -> List[str]:
-    """Writes the certificate, and the outcome where it isn't the election's own. Answers the paths. Raises OSError."""
+    """Writes the certificate, and the outcome where it isn't the election's own. Answers the paths. Raises OSError, and
+    FileExistsError before anything is written where another outcome is there, since nobody named that file."""
+    outcome = outcome_path(certificate)
+    if not made.is_own and os.path.lexists(outcome) and bytes_of(outcome) != made.outcome:
+        raise FileExistsError(errno.EEXIST, "another outcome is there, and stays: remove it, or write to another CERTIFICATE",
+                              outcome)
     write_to(certificate, made.certificate.file)
     if made.is_own:
         return [certificate]
-    write_to(outcome_path(certificate), made.outcome)
-    return [certificate, outcome_path(certificate)]
+    write_to(outcome, made.outcome)
+    return [certificate, outcome]
 
 
 class _Teller:

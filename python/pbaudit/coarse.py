@@ -9,7 +9,7 @@ from typing import Dict, Optional
 from ._auditor import Mode, Question
 from .amounts import MILLION, MOST_COST, MOST_DENOMINATOR, MOST_NUMERATOR, common_denominator
 from .auditing import Verdict, verdict
-from .town import Town
+from .decided import DecidedElection
 from .values import Payments, Projects
 from .writing import Payers, election_file, price_file, voters_of
 
@@ -17,17 +17,17 @@ from .writing import Payers, election_file, price_file, voters_of
 TOLD = ("Feasible", "Exhaustive", "C1", "C3", "C4")
 
 
-def told_by_signs(town: Town, projects: Projects, payments: Payments, mode: Mode) -> Optional[Verdict]:
+def told_by_signs(decided: DecidedElection, projects: Projects, payments: Payments, mode: Mode) -> Optional[Verdict]:
     """A no that follows from the outcome and from which payments are 0, or None where there is none. Raises ValueError
     where a payment is below 0."""
-    factor = common_denominator(cost * MILLION for cost in [town.limit, *town.costs])
-    costs, limit = [cost * factor for cost in town.costs], town.limit * factor
+    factor = common_denominator(cost * MILLION for cost in [decided.limit, *decided.costs])
+    costs, limit = [cost * factor for cost in decided.costs], decided.limit * factor
     if max([limit, *costs]) > MOST_COST:
         return None
-    rests = _rests(projects, payments, {place: int(costs[place] * MOST_DENOMINATOR) for place in town.funded})
+    rests = _rests(projects, payments, {place: int(costs[place] * MOST_DENOMINATOR) for place in decided.funded})
     if rests is None:
         return None
-    election = election_file(projects, costs, limit, town.ballots, town.funded)
+    election = election_file(projects, costs, limit, decided.ballots, decided.funded)
     # Nobody pays more than this for projects within the limit.
     certificate = price_file(MOST_DENOMINATOR, MOST_NUMERATOR, projects, _payers(projects, payments, rests))
     found = verdict(Question("prices", election, certificate, mode=mode))

@@ -10,12 +10,12 @@ from fractions import Fraction
 from typing import Any, List, Optional, Tuple
 
 from .amounts import ratio
+from .decided import DecidedElection
 from .finding.clock import Clock
 from .finding.needs import needed
 from .helpers import Helper, Late, Lost
 from .noise import NOISE
 from .rounding import Given
-from .town import Town
 
 np, sparse = needed("numpy"), needed("scipy.sparse")
 
@@ -62,11 +62,11 @@ class Programme:
     high: Any
 
 
-def corrected(town: Town, given: Given, stable: bool, reach: Reach, clock: Clock) -> Optional[Given]:
+def corrected(decided: DecidedElection, given: Given, stable: bool, reach: Reach, clock: Clock) -> Optional[Given]:
     """Payments within the reach that keep all conditions with room for rounding, as far as there is such room; or None."""
-    if not 0 < len(town.project_of) <= MOST_SLOTS:
+    if not 0 < len(decided.project_of) <= MOST_SLOTS:
         return None
-    rows = _Rows(town, given, stable, reach)
+    rows = _Rows(decided, given, stable, reach)
     clock.tell(f"linear programme over {rows.count} payments")
     values = _answer(rows.programme(), clock)
     if values is not None and -ROOM < values[rows.room_at] < 1 - ROOM:
@@ -107,9 +107,9 @@ class _Rows:
     """The rows of the programme. Its columns are by how much each payment goes up, and by how much down, the voter budget,
     the room that all conditions have, and each voter's offer; amounts are parts of the reach."""
 
-    def __init__(self, town: Town, given: Given, stable: bool, reach: Reach):
-        self.town, self.source, self.stable, self.reach = town, given, stable, reach
-        self.voter, self.project, voters = _numbers(town.voter_of), _numbers(town.project_of), len(town.ballots)
+    def __init__(self, decided: DecidedElection, given: Given, stable: bool, reach: Reach):
+        self.decided, self.source, self.stable, self.reach = decided, given, stable, reach
+        self.voter, self.project, voters = _numbers(decided.voter_of), _numbers(decided.project_of), len(decided.ballots)
         self.count, self.sizes = len(self.voter), np.bincount(self.voter, minlength=voters)
         self.budget_at, self.room_at, self.offer_at = 2 * self.count, 2 * self.count + 1, 2 * self.count + 2
         self.paid = np.maximum(np.array(given.floats), 0.0) / reach.amount
@@ -159,7 +159,7 @@ class _Rows:
 
     def _limit_moves(self) -> None:
         """How far all payments of a voter may move together, and where that is noise all for a project."""
-        by_voter, by_project = np.zeros(len(self.sizes)), np.zeros(len(self.town.names))
+        by_voter, by_project = np.zeros(len(self.sizes)), np.zeros(len(self.decided.names))
         for one in self.source.left_out:
             by_voter[one.voter] += abs(float(one.amount)) / self.reach.amount
             by_project[one.project] += abs(float(one.amount)) / self.reach.amount
@@ -168,7 +168,7 @@ class _Rows:
         rows = self._add(np.maximum(1.0 - by_voter - grains * self.sizes, 0.0))
         self._enter_changes(rows[self.voter], every, 1.0, 1.0)
         if self.reach.is_noise:
-            most = np.array([float(cost * NOISE) for cost in self.town.costs]) / self.reach.amount - by_project
+            most = np.array([float(cost * NOISE) for cost in self.decided.costs]) / self.reach.amount - by_project
             rows = self._add(np.maximum(most - grains * np.bincount(self.project, minlength=len(most)), 0.0))
             self._enter_changes(rows[self.project], every, 1.0, 1.0)
 
@@ -182,9 +182,9 @@ class _Rows:
     def _keep_unfunded(self) -> Any:
         """C5 or S5. Answers the voters on whose offers a row depends."""
         voters = np.zeros(len(self.sizes), bool)
-        for project in self.town.unfunded:
-            supporters = _numbers(self.town.supporters[project])
-            slack = float(self.town.costs[project]) / self.reach.amount - float(self.offers[supporters].sum())
+        for project in self.decided.unfunded:
+            supporters = _numbers(self.decided.supporters[project])
+            slack = float(self.decided.costs[project]) / self.reach.amount - float(self.offers[supporters].sum())
             if slack < RISES * len(supporters) + 1:
                 row = self._add(np.array([slack]), float((self.sizes[supporters] + 1).sum()) * self._room)
                 self._enter(np.repeat(row, len(supporters)), self.offer_at + supporters, 1.0)
@@ -230,8 +230,8 @@ class _Rows:
 
     def _equal(self, size: int) -> Tuple[Any, Any]:
         """C3."""
-        paid = np.bincount(self.project, self.paid, len(self.town.names))
-        costs = np.array([float(cost) for cost in self.town.costs]) / self.reach.amount
+        paid = np.bincount(self.project, self.paid, len(self.decided.names))
+        costs = np.array([float(cost) for cost in self.decided.costs]) / self.reach.amount
         bought, rows = np.unique(self.project, return_inverse=True)
         values = np.concatenate([np.ones(self.count), np.full(self.count, -1.0)])
         at = np.concatenate([rows, rows])

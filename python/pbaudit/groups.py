@@ -7,7 +7,7 @@ from ._auditor import Question, Satisfaction, auditor, measured
 from .amounts import MILLION, common_denominator
 from .auditing import Asked, answered
 from .files import File
-from .objects import Found, limit_notes, line_of
+from .objects import Found, amount_of, limit_notes, line_of
 from .records import records
 from .tables import Result
 from .values import AnyInstance, AnyProject, Ballots, Profile, ballots_of, each_ballot, funded_of, projects_of
@@ -263,9 +263,6 @@ def _verdict(found: Found) -> GroupsVerdict:
 
 
 def _figures(group: Found, by: Satisfaction) -> GroupFigures:
-    def amount(figure: Any) -> Fraction:
-        whole, part = (figure["numerator"], figure["denominator"]) if isinstance(figure, dict) else (figure, 1)
-        return Fraction(int(whole), part * MILLION)
-    most = amount(group["most"]) if by == "cost" else Fraction(group["most"])
-    return GroupFigures(group["project"], amount(group["cost"]), group["supporters"], group["voters"], most,
-                        amount(group["need"]), amount(group["share"]), amount(group["missing"]))
+    most = amount_of(group["most"]) if by == "cost" else Fraction(group["most"])
+    return GroupFigures(group["project"], amount_of(group["cost"]), group["supporters"], group["voters"], most,
+                        amount_of(group["need"]), amount_of(group["share"]), amount_of(group["missing"]))

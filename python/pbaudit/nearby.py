@@ -11,9 +11,9 @@ from ._auditor import Mode, Question
 from .amounts import MOST_DENOMINATOR, common_denominator
 from .auditing import Verdict, verdict, with_moved
 from .certificates import certified, payable, scale_of, scaled_election
+from .decided import DecidedElection
 from .noise import NOISE, beyond_noise
 from .rounding import CannotKeep, LeftOut
-from .town import Town
 from .values import Payments, Projects, check_count
 from .writing import Payers, price_file
 
@@ -24,18 +24,18 @@ if TYPE_CHECKING:
 Place = Tuple[str, Optional[int], Optional[int]]
 
 
-def verdict_near(town: Town, projects: Projects, voter_budget: object, payments: Payments, mode: Mode,
+def verdict_near(decided: DecidedElection, projects: Projects, voter_budget: object, payments: Payments, mode: Mode,
                  clock: "Clock") -> Verdict:
     """The verdict on prices near these. Raises CannotKeep where neither a yes nor a no is found."""
-    check_count(len(town.ballots), len(payments.functions))
+    check_count(len(decided.ballots), len(payments.functions))
     budget = payable(voter_budget, "the voter budget")
-    scale = scale_of(town, budget)
-    election = scaled_election(town, projects, scale)
+    scale = scale_of(decided, budget)
+    election = scaled_election(decided, projects, scale)
     try:
-        made = certified(town, projects, budget, payments, mode.stable, mode.exhaustive, is_near=True, clock=clock)
+        made = certified(decided, projects, budget, payments, mode.stable, mode.exhaustive, is_near=True, clock=clock)
     except CannotKeep:
         # One below 0 is so by no more than noise.
-        rounded = _rounded(town, projects, max(budget, Fraction(0)), payments, scale)
+        rounded = _rounded(decided, projects, max(budget, Fraction(0)), payments, scale)
         found = verdict(Question("prices", election, rounded.file(projects), mode=mode))
         if not rounded.is_plain_no(found, projects, mode.stable):
             raise
@@ -43,9 +43,9 @@ def verdict_near(town: Town, projects: Projects, voter_budget: object, payments:
     return with_moved(verdict(Question("prices", election, made.file, mode=mode)), made.moved, made.raised)
 
 
-def _rounded(town: Town, projects: Projects, budget: Fraction, payments: Payments, scale: int) -> "_Rounded":
+def _rounded(decided: DecidedElection, projects: Projects, budget: Fraction, payments: Payments, scale: int) -> "_Rounded":
     """The payments, each rounded by itself. Raises ValueError where one is below 0 by more than noise."""
-    rounded = _Rounded(town, budget, scale)
+    rounded = _Rounded(decided, budget, scale)
     for voter, function in enumerate(payments.functions, 1):
         what = f"voter {voter} pays for"
         places = projects.once(projects.places(function, what), what)
@@ -59,7 +59,7 @@ class _Rounded:
     """Payments rounded to numerators over one fine denominator, in a unit that is so many times smaller. What is noise
     where nothing should be is left out."""
 
-    town: Town
+    decided: DecidedElection
     budget: Fraction
     scale: int
     denominator: int = field(init=False)
@@ -75,17 +75,17 @@ class _Rounded:
     spent: List[int] = field(default_factory=list)
 
     def __post_init__(self) -> None:
-        unit = common_denominator(cost * self.scale for cost in self.town.costs)
+        unit = common_denominator(cost * self.scale for cost in self.decided.costs)
         self.denominator = MOST_DENOMINATOR // unit * unit * self.scale
         self.noise = self.budget * NOISE
 
     def add(self, voter: int, given: Dict[int, object]) -> None:
         """Takes what a voter pays."""
-        ballot, mine = set(self.town.ballots[voter - 1]), {}
+        ballot, mine = set(self.decided.ballots[voter - 1]), {}
         for place, amount in given.items():
-            exact = payable(amount, f"what voter {voter} pays for {self.town.names[place]}")
+            exact = payable(amount, f"what voter {voter} pays for {self.decided.names[place]}")
             numerator = exact.numerator * self.denominator // exact.denominator
-            if exact > 0 and place in ballot and place in self.town.funded:
+            if exact > 0 and place in ballot and place in self.decided.funded:
                 mine[place] = numerator
                 self.moved = max(self.moved, exact - Fraction(numerator, self.denominator))
             elif exact:
@@ -96,20 +96,20 @@ class _Rounded:
     def leave_noise_out(self) -> None:
         """Takes what is more than noise for payments, and leaves out the rest. Raises ValueError where more than noise
         is below 0."""
-        beyond = set(beyond_noise(self.town, self.odd, self.noise))
+        beyond = set(beyond_noise(self.decided, self.odd, self.noise))
         for one in self.odd:
             if one not in beyond:
                 self.moved = max(self.moved, abs(one.amount))
                 continue
             if one.amount < 0:
-                raise ValueError(f"voter {one.voter + 1} pays {one.amount} for {self.town.names[one.project]}, and a "
+                raise ValueError(f"voter {one.voter + 1} pays {one.amount} for {self.decided.names[one.project]}, and a "
                                  "certificate has no payments below 0")
             # No payment is rounded to none.
             numerator = max(1, one.amount.numerator * self.denominator // one.amount.denominator)
             self.paid[one.voter][one.project] = numerator
             if one.condition == "C1":
                 self.misplaced.add(("C1", one.voter + 1, one.project))
-            if one.project not in self.town.funded:
+            if one.project not in self.decided.funded:
                 self.misplaced.add(("C4", None, one.project))
         for mine in self.paid:
             self.spent.append(sum(mine.values()))
@@ -117,12 +117,12 @@ class _Rounded:
                 self.totals[place] = self.totals.get(place, 0) + numerator
 
     def _missing(self, place: int) -> int:
-        return int(self.town.costs[place] * self.denominator) - self.totals.get(place, 0)
+        return int(self.decided.costs[place] * self.denominator) - self.totals.get(place, 0)
 
     def _fails_by_much(self, place: int) -> bool:
         """Whether a funded project isn't paid for, by more than rounding and noise."""
-        noise = self.town.costs[place] * NOISE * self.denominator
-        return abs(self._missing(place)) > noise + len(self.town.slots[place])
+        noise = self.decided.costs[place] * NOISE * self.denominator
+        return abs(self._missing(place)) > noise + len(self.decided.slots[place])
 
     def _is_over(self, voter: int) -> bool:
         """Whether a voter (from 1) spends more than the budget by more than noise."""
@@ -131,7 +131,7 @@ class _Rounded:
     def file(self, projects: Projects) -> bytes:
         """The certificate, in which projects are paid for exactly where no more than noise is missing, and the budget is
         one by which nobody is over it by noise alone."""
-        missing = {place: self._missing(place) for place in self.town.funded if not self._fails_by_much(place)}
+        missing = {place: self._missing(place) for place in self.decided.funded if not self._fails_by_much(place)}
         totals, settled = dict(self.totals), []
         for mine in self.paid:
             kept = dict(mine)
@@ -165,14 +165,14 @@ class _Rounded:
     def _has_too_much(self, place: int, stable: bool) -> bool:
         """Whether the supporters of an unfunded project have more left, or can offer more, than it costs."""
         budget = self.budget * self.denominator
-        total, supporters = Fraction(0), self.town.supporters[place]
+        total, supporters = Fraction(0), self.decided.supporters[place]
         for voter in supporters:
             offer = budget - self.spent[voter]
             if stable:
                 offer = max(offer, Fraction(max(self.paid[voter].values(), default=0)))
             total += offer
         payments = sum(len(self.paid[voter]) for voter in supporters)
-        return total > self.town.costs[place] * (1 + NOISE) * self.denominator + payments
+        return total > self.decided.costs[place] * (1 + NOISE) * self.denominator + payments
 
 
 def _payers(paid: List[Dict[int, int]]) -> Payers:

@@ -1,7 +1,10 @@
 """Answers as objects, whose keys are those of docs/JSON.md; and the lines that the program prints of them."""
 import json
 import reprlib
+from fractions import Fraction
 from typing import Any, Dict, List
+
+from .amounts import MILLION
 
 Found = Dict[str, Any]
 VERSION = 1
@@ -15,6 +18,12 @@ def object_of(line: bytes, status: int) -> Found:
     if not isinstance(found, dict) or found.get("version") != VERSION or STATUSES.get(str(found.get("answer"))) != status:
         raise ValueError(f"{reprlib.repr(line)} with status {status}")
     return found
+
+
+def amount_of(figure: Any) -> Fraction:
+    """An amount of an object, in the currency: its millionths, or these over the number of voters."""
+    whole, part = (figure["numerator"], figure["denominator"]) if isinstance(figure, dict) else (figure, 1)
+    return Fraction(int(whole), part * MILLION)
 
 
 def text_of_object(found: Found) -> str:

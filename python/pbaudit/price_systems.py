@@ -10,11 +10,11 @@ from .amounts import (
 )
 from .auditing import Verdict, verdict
 from .coarse import told_by_signs
+from .decided import DecidedElection
 from .matrices import check_rows
 from .nearby import verdict_near
 from .rounding import CannotKeep
 from .settling import SECONDS, clock_of
-from .town import Town
 from .values import (
     AnyInstance, AnyProject, NearPaymentFunction, Payments, Profile, Projects, ballots_of, check_count, funded_of,
     projects_of,
@@ -92,16 +92,16 @@ def _validated(instance: AnyInstance, profile: Profile, budget_allocation: Itera
     payments = Payments(payment_functions, projects)
     check_count(len(ballots), len(payments.functions))
 
-    def town() -> Town:
-        return Town(projects.ids, costs, limit, set(funded), ballots)
+    def decided() -> DecidedElection:
+        return DecidedElection(projects.ids, costs, limit, set(funded), ballots)
     if clock and (is_float(voter_budget) or payments.has_floats):
-        return verdict_near(town(), projects, voter_budget, payments, mode, clock)
+        return verdict_near(decided(), projects, voter_budget, payments, mode, clock)
     budget = exact_price(voter_budget, "the voter budget")
     payments.check_exact()
     try:
         factor, denominator = _scale([limit, *costs], chain([budget.denominator], payments.denominators()))
     except TooManyDenominators:
-        return _beyond_certificates(town(), projects, budget, payments, mode, clock)
+        return _beyond_certificates(decided(), projects, budget, payments, mode, clock)
     election = election_file(projects, [cost * factor for cost in costs], limit * factor, ballots, funded)
     scaled = denominator * factor
     numerator = budget.numerator * (scaled // budget.denominator)
@@ -109,14 +109,14 @@ def _validated(instance: AnyInstance, profile: Profile, budget_allocation: Itera
     return verdict(Question("prices", election, certificate, mode=mode))
 
 
-def _beyond_certificates(town: Town, projects: Projects, budget: Fraction, payments: Payments, mode: Mode,
+def _beyond_certificates(decided: DecidedElection, projects: Projects, budget: Fraction, payments: Payments, mode: Mode,
                          clock: "Optional[Clock]") -> Verdict:
     """The verdict where no certificate states the amounts. A no that is seen without their size stands before a yes to
     prices near these."""
-    sure = told_by_signs(town, projects, payments, mode)
+    sure = told_by_signs(decided, projects, payments, mode)
     if clock:
         try:
-            found = verdict_near(town, projects, budget, payments, mode, clock)
+            found = verdict_near(decided, projects, budget, payments, mode, clock)
         except CannotKeep:
             if sure is None:
                 raise

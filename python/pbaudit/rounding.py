@@ -12,8 +12,8 @@ from functools import lru_cache, partial
 from typing import TYPE_CHECKING, Any, Callable, Dict, Iterable, List, Optional, Sequence, Tuple, Union
 
 from .amounts import ratio, ratio_of_float
+from .decided import DecidedElection
 from .shown import visible
-from .town import Town
 
 if TYPE_CHECKING:
     from .finding.clock import Clock
@@ -90,15 +90,15 @@ class Rounding:
     # Bounds on the repairs, so that one that doesn't come to an end is given up. A shift may look at each approval.
     MOST_SHIFTS, MOST_LOOKS, MOST_ROUNDS, MOST_MOVES = 5000, 5 * 10**6, 100, 3000
 
-    def __init__(self, town: Town, given: Given, denominator: int, stable: bool, keeps_budget: bool = False):
-        self.town, self.given, self.denominator, self.stable = town, given, denominator, stable
+    def __init__(self, decided: DecidedElection, given: Given, denominator: int, stable: bool, keeps_budget: bool = False):
+        self.decided, self.given, self.denominator, self.stable = decided, given, denominator, stable
         self.keeps_budget = keeps_budget
         self.budget = 0
         self.paid: Numbers = []
         self.spent: Numbers = []
         self.slack: Dict[int, int] = {}
         # No payment or budget that is tried comes near the double of this.
-        most = max([given.budget, *(town.costs[project] for project in town.funded)])
+        most = max([given.budget, *(decided.costs[project] for project in decided.funded)])
         self._is_small = most * denominator < SMALL
         self._floors = self._floor_all()
 
@@ -139,17 +139,17 @@ class Rounding:
 
     def _cost(self, project: int) -> int:
         """What a project costs, rounded down. Of a funded one that is exact."""
-        return self._floor(self.town.costs[project])
+        return self._floor(self.decided.costs[project])
 
     def _pay(self, slot: int, more: int) -> None:
         self.paid[slot] += more
-        self.spent[self.town.voter_of[slot]] += more
+        self.spent[self.decided.voter_of[slot]] += more
 
     def _left(self, voter: int) -> int:
         return self.budget - self.spent[voter]
 
     def _offer(self, voter: int) -> int:
-        slots = self.town.slots_of(voter)
+        slots = self.decided.slots_of(voter)
         return max(self._left(voter), max(self.paid[slots.start:slots.stop], default=0))
 
     # C1 to C4: each funded project is paid for exactly, and nobody is over the budget.
@@ -158,11 +158,11 @@ class Rounding:
         return array("q", numbers) if self._is_small else list(numbers)
 
     def _floor_all(self) -> Floors:
-        floors = Floors(self._numbers(0 for _ in self.town.project_of), {}, {})
+        floors = Floors(self._numbers(0 for _ in self.decided.project_of), {}, {})
         amounts, paid, split = self.given.amounts, floors.paid, self._split()
-        for project in sorted(self.town.funded):
+        for project in sorted(self.decided.funded):
             rests, total = [], 0
-            for slot in self.town.slots[project]:
+            for slot in self.decided.slots[project]:
                 if amounts[slot]:
                     floor, rest = split(amounts[slot])
                     paid[slot] = floor
@@ -190,31 +190,31 @@ class Rounding:
         return known if is_float else split
 
     def _share_costs(self, budget: int) -> None:
-        town = self.town
+        decided = self.decided
         self.budget, self.paid = budget, self._floors.paid[:]
-        self.spent = self._numbers(sum(self.paid[start:end]) for start, end in zip(town.starts, town.starts[1:]))
+        self.spent = self._numbers(sum(self.paid[start:end]) for start, end in zip(decided.starts, decided.starts[1:]))
         missing = dict(self._floors.missing)
         for voter, spent in enumerate(self.spent):
             if spent > budget:
                 self._cut_noise(voter, missing)
-        for project in sorted(town.funded):
+        for project in sorted(decided.funded):
             payers = self._floors.order[project]
             missing[project] = self._give_back(payers, missing[project])
             missing[project] = self._take_more(project, payers, missing[project])
-        for project in sorted(town.funded):
+        for project in sorted(decided.funded):
             while missing[project] > 0:
                 if not self._clock.left():
-                    raise CannotKeep("C3", f"there was too little time to pay exactly for {town.names[project]}",
-                                     project=town.names[project])
+                    raise CannotKeep("C3", f"there was too little time to pay exactly for {decided.names[project]}",
+                                     project=decided.names[project])
                 missing[project] -= self._pass_on(project, missing[project])
 
     def _cut_noise(self, voter: int, missing: Dict[int, int]) -> None:
         """Lowers the largest payments of a voter who is over the budget."""
         while self.spent[voter] > self.budget:
-            slot = max(self.town.slots_of(voter), key=self.paid.__getitem__)
+            slot = max(self.decided.slots_of(voter), key=self.paid.__getitem__)
             cut = min(self.paid[slot], self.spent[voter] - self.budget)
             self._pay(slot, -cut)
-            missing[self.town.project_of[slot]] += cut
+            missing[self.decided.project_of[slot]] += cut
 
     def _give_back(self, payers: Sequence[int], missing: int) -> int:
         """Where too much is paid, the payments with the smallest remainders go down. Answers what is missing then."""
@@ -233,7 +233,7 @@ class Rounding:
             missing -= self._raise_each(payers, 1, missing)
         part = 1
         while missing > 0:
-            given = self._raise_each(self.town.slots[project], part, missing)
+            given = self._raise_each(self.decided.slots[project], part, missing)
             if not given:
                 break
             missing -= given
@@ -241,7 +241,7 @@ class Rounding:
         return missing
 
     def _raise_each(self, slots: Iterable[int], part: int, missing: int) -> int:
-        given, voter_of, spent = 0, self.town.voter_of, self.spent
+        given, voter_of, spent = 0, self.decided.voter_of, self.spent
         for slot in slots:
             if given >= missing:
                 break
@@ -254,34 +254,34 @@ class Rounding:
 
     def _pass_on(self, start: int, most: int) -> int:
         """Pays for a project along a shortest chain to a voter who has budget left, and answers how much."""
-        town = self.town
+        decided = self.decided
         reached_from: Dict[int, Step] = {start: (None, 0)}
         line = [start]
         for project in line:
-            for slot in town.slots[project]:
-                voter = town.voter_of[slot]
+            for slot in decided.slots[project]:
+                voter = decided.voter_of[slot]
                 if self._left(voter) > 0:
                     return self._pay_along(reached_from, slot, most)
-                for other in town.slots_of(voter):
-                    at = town.project_of[other]
+                for other in decided.slots_of(voter):
+                    at = decided.project_of[other]
                     if self.paid[other] > 0 and at not in reached_from:
                         reached_from[at] = (other, slot)
                         line.append(at)
         raise self._too_little(start, line)
 
     def _too_little(self, start: int, line: List[int]) -> CannotKeep:
-        town = self.town
-        voters = {town.voter_of[slot] for project in line for slot in town.slots[project]}
-        names = ", ".join(town.names[project] for project in line[:5]) + (" and others" if len(line) > 5 else "")
-        cost = float(sum(town.costs[project] for project in line))
+        decided = self.decided
+        voters = {decided.voter_of[slot] for project in line for slot in decided.slots[project]}
+        names = ", ".join(decided.names[project] for project in line[:5]) + (" and others" if len(line) > 5 else "")
+        cost = float(sum(decided.costs[project] for project in line))
         told = f"the {len(voters)} supporters of {names} have a budget of {self._told(self.budget)} each"
-        return CannotKeep("C2", f"{told}, and these projects cost {cost:.9g}", project=town.names[start])
+        return CannotKeep("C2", f"{told}, and these projects cost {cost:.9g}", project=decided.names[start])
 
     def _pay_along(self, reached_from: Dict[int, Step], slot: int, most: int) -> int:
-        most = min(most, self._left(self.town.voter_of[slot]))
+        most = min(most, self._left(self.decided.voter_of[slot]))
         gives, takes = [], [slot]
         while True:
-            less, more = reached_from[self.town.project_of[takes[-1]]]
+            less, more = reached_from[self.decided.project_of[takes[-1]]]
             if less is None:
                 break
             gives.append(less)
@@ -300,60 +300,60 @@ class Rounding:
 
     def _shift_payments(self) -> None:
         """Repairs C5, where the supporters of an unfunded project have more left than it costs."""
-        for project in self.town.unfunded:
-            left = sum(self._left(voter) for voter in self.town.supporters[project])
+        for project in self.decided.unfunded:
+            left = sum(self._left(voter) for voter in self.decided.supporters[project])
             self.slack[project] = self._cost(project) - left
-        looks = len(self.town.ballots.places)
+        looks = len(self.decided.ballots.places)
         for _ in range(min(self.MOST_SHIFTS, self.MOST_LOOKS // max(1, looks))):
-            over = [project for project in self.town.unfunded if self.slack[project] < 0]
+            over = [project for project in self.decided.unfunded if self.slack[project] < 0]
             if not over or not self._clock.left() or not self._shift_one(min(over, key=self.slack.__getitem__)):
                 return
 
     def _shift_one(self, unfunded: int) -> bool:
         """Lets a supporter of an unfunded project who has something left pay in the place of a voter who isn't one,
         along a chain. Whether one was found."""
-        town = self.town
-        inside = set(town.supporters[unfunded])
+        decided = self.decided
+        inside = set(decided.supporters[unfunded])
         reached_from: Dict[int, Step] = {}
-        for voter in town.supporters[unfunded]:
+        for voter in decided.supporters[unfunded]:
             if self._left(voter) > 0:
-                for slot in town.slots_of(voter):
-                    reached_from.setdefault(town.project_of[slot], (None, slot))
+                for slot in decided.slots_of(voter):
+                    reached_from.setdefault(decided.project_of[slot], (None, slot))
         line = list(reached_from)
         for project in line:
-            for slot in town.slots[project]:
+            for slot in decided.slots[project]:
                 if self.paid[slot] <= 0:
                     continue
-                voter = town.voter_of[slot]
+                voter = decided.voter_of[slot]
                 if voter not in inside:
                     if self._shift_along(reached_from, unfunded, slot):
                         return True
                     continue
-                for other in town.slots_of(voter):
-                    if town.project_of[other] not in reached_from:
-                        reached_from[town.project_of[other]] = (slot, other)
-                        line.append(town.project_of[other])
+                for other in decided.slots_of(voter):
+                    if decided.project_of[other] not in reached_from:
+                        reached_from[decided.project_of[other]] = (slot, other)
+                        line.append(decided.project_of[other])
         return False
 
     def _shift_along(self, reached_from: Dict[int, Step], unfunded: int, last: int) -> bool:
-        town = self.town
+        decided = self.decided
         most, gives, takes = self.paid[last], [last], []
         while True:
-            less, more = reached_from[town.project_of[gives[-1]]]
+            less, more = reached_from[decided.project_of[gives[-1]]]
             takes.append(more)
             if less is None:
                 break
             gives.append(less)
             most = min(most, self.paid[less])
-        payer, relieved = town.voter_of[takes[-1]], town.voter_of[last]
-        bounds = [self.slack[other] for other in town.others(relieved) - town.others(payer)]
+        payer, relieved = decided.voter_of[takes[-1]], decided.voter_of[last]
+        bounds = [self.slack[other] for other in decided.others(relieved) - decided.others(payer)]
         most = min([most, self._left(payer), -self.slack[unfunded], *bounds])
         if most <= 0:
             return False
         self._move_along(gives, takes, most)
-        for other in town.others(payer):
+        for other in decided.others(payer):
             self.slack[other] += most
-        for other in town.others(relieved):
+        for other in decided.others(relieved):
             self.slack[other] -= most
         return True
 
@@ -362,12 +362,12 @@ class Rounding:
     def _ease_offers(self) -> None:
         """Moves parts of payments between two supporters of a funded project, while that lessens by how much S5 fails
         in all."""
-        excess = {project: sum(map(self._offer, self.town.supporters[project])) - self._cost(project)
-                  for project in self.town.unfunded}
+        excess = {project: sum(map(self._offer, self.decided.supporters[project])) - self._cost(project)
+                  for project in self.decided.unfunded}
         for _ in range(self.MOST_ROUNDS):
             moves = 0
             for project in sorted(excess, key=excess.__getitem__, reverse=True):
-                for voter in self.town.supporters[project]:
+                for voter in self.decided.supporters[project]:
                     while (excess[project] > 0 and moves < self.MOST_MOVES and self._clock.left()
                            and self._lessen(excess, project, voter)):
                         moves += 1
@@ -377,15 +377,15 @@ class Rounding:
     def _lessen(self, excess: Dict[int, int], unfunded: int, voter: int) -> bool:
         """Lessens what one supporter of an unfunded project can offer: its dearest payment, where that is the offer, or
         else what it has left. Whether a move was found."""
-        town, slots = self.town, self.town.slots_of(voter)
+        decided, slots = self.decided, self.decided.slots_of(voter)
         dearest = max(slots, key=self.paid.__getitem__, default=None)
         is_payment = dearest is not None and self.paid[dearest] >= self._left(voter)
         for mine in [dearest] if dearest is not None and is_payment else slots:
-            for theirs in town.slots[town.project_of[mine]]:
-                other = town.voter_of[theirs]
+            for theirs in decided.slots[decided.project_of[mine]]:
+                other = decided.voter_of[theirs]
                 gives, takes = (mine, theirs) if is_payment else (theirs, mine)
-                most = min(self.paid[gives], self._left(town.voter_of[takes]))
-                gains_nothing = unfunded in town.others(other) and self._offer(other) >= self._offer(voter)
+                most = min(self.paid[gives], self._left(decided.voter_of[takes]))
+                gains_nothing = unfunded in decided.others(other) and self._offer(other) >= self._offer(voter)
                 if other == voter or most <= 0 or gains_nothing:
                     continue
                 for part in {min(most, excess[unfunded]), min(most, -(-excess[unfunded] // 8)), 1}:
@@ -395,13 +395,13 @@ class Rounding:
 
     def _move(self, excess: Dict[int, int], gives: int, takes: int, part: int) -> bool:
         """Moves a part of a payment from one voter to another, if by that S5 fails by less in all. Whether it does."""
-        voters = [self.town.voter_of[slot] for slot in (gives, takes)]
+        voters = [self.decided.voter_of[slot] for slot in (gives, takes)]
         before = {voter: self._offer(voter) for voter in voters}
         self._move_along([gives], [takes], part)
         change: Dict[int, int] = {}
         for voter, old in before.items():
             by = self._offer(voter) - old
-            for other in self.town.others(voter) if by else ():
+            for other in self.decided.others(voter) if by else ():
                 change[other] = change.get(other, 0) + by
         if sum(max(0, excess[other] + by) - max(0, excess[other]) for other, by in change.items()) < 0:
             for other, by in change.items():
@@ -416,15 +416,15 @@ class Rounding:
         """The unfunded projects by which C5 or S5 fails, with what their supporters have left or can offer."""
         share = self._offer if self.stable else self._left
         shares = self._numbers(map(share, range(len(self.spent))))
-        sums = {project: sum(map(shares.__getitem__, self.town.supporters[project])) for project in self.town.unfunded}
+        sums = {project: sum(map(shares.__getitem__, self.decided.supporters[project])) for project in self.decided.unfunded}
         return [(project, total) for project, total in sums.items()
-                if total > self.town.costs[project] * self.denominator]
+                if total > self.decided.costs[project] * self.denominator]
 
     def _check(self) -> None:
         for project, total in self._failing():
-            name, voters = self.town.names[project], len(self.town.supporters[project])
+            name, voters = self.decided.names[project], len(self.decided.supporters[project])
             condition, can = ("S5", "can offer") if self.stable else ("C5", "have left")
-            cost = float(self.town.costs[project])
+            cost = float(self.decided.costs[project])
             raise CannotKeep(condition, f"the {voters} supporters of {name} {can} {self._told(total)} together, and it "
                              f"costs {cost:.12g} (denominator {self.denominator}); other payments may keep it: let the "
                              "solver maximise the slack of this condition", project=name)

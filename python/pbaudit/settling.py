@@ -10,10 +10,10 @@ from numbers import Real
 from typing import TYPE_CHECKING, Any, Callable, List, Optional, Sequence
 
 from .amounts import MOST_DENOMINATOR, least_multiple, near
+from .decided import DecidedElection
 from .files import checked_call
 from .noise import NOISE, check_moves
 from .rounding import CannotKeep, Given, Rounding
-from .town import Town
 
 if TYPE_CHECKING:
     from .finding.clock import Clock, Tell
@@ -44,7 +44,7 @@ class Settling:
     """The payments to settle, whether they have to stay near, how many times smaller the unit is, and the time there
     is."""
 
-    town: Town
+    decided: DecidedElection
     given: Given
     stable: bool
     is_near: bool
@@ -92,7 +92,7 @@ class Settling:
             from .corrections import MOST_SLOTS, Reach, corrected
         except ImportError:
             return None
-        self._has_programme = len(self.town.project_of) <= MOST_SLOTS
+        self._has_programme = len(self.decided.project_of) <= MOST_SLOTS
         finest = max(denominators)
         # What was given exactly isn't repaired, but for what rounding needs.
         for part in FARTHER[:1] if self.is_near or self.given.is_exact else FARTHER:
@@ -100,7 +100,7 @@ class Settling:
             if amount * finest * self.scale < GRAINS:
                 continue
             reach = Reach(float(amount), finest * self.scale, self.is_near)
-            found = corrected(self.town, self.given, self.stable, reach, self.clock)
+            found = corrected(self.decided, self.given, self.stable, reach, self.clock)
             rounding = None if found is None else self._tried(found, finest)
             if rounding is not None:
                 return rounding
@@ -120,7 +120,7 @@ class Settling:
     def _tried(self, given: Given, denominator: int, moving: "Optional[Clock]" = None) -> Optional[Rounding]:
         """Numerators of payments over a denominator; with a clock, parts of payments are moved in its time."""
         try:
-            rounding = Rounding(self.town, given, denominator * self.scale, self.stable, self.is_near)
+            rounding = Rounding(self.decided, given, denominator * self.scale, self.stable, self.is_near)
             rounding.settle(moving or self.clock, moving is not None)
             if self.is_near:
                 check_moves(rounding, self.given, Fraction(1, MOST_DENOMINATOR * self.scale))

@@ -15,9 +15,9 @@ from typing import Any, Callable, Dict, Iterator, List, Literal, Optional, Seque
 from ._auditor import switch
 from .amounts import Amount, exact_cost, least_multiple
 from .certificates import certified
+from .decided import DecidedElection
 from .leaps import Between, Leap, Unsure, level
 from .tables import Result, payment_rows
-from .town import Town
 from .values import AnyInstance, Ballots, Payments, Profile, Projects, ballots_of, projects_of
 
 Measure = Literal["cost", "count"]
@@ -103,12 +103,12 @@ def equal_shares(instance: AnyInstance, profile: Profile, *, by: Measure = "cost
     if not is_near:
         return made
     funded = {projects.place[name] for name in made.funded}
-    return _near(made, Town(projects.ids, costs, limit, funded, ballots), projects)
+    return _near(made, DecidedElection(projects.ids, costs, limit, funded, ballots), projects)
 
 
-def _near(made: EqualShares, town: Town, projects: Projects) -> EqualShares:
+def _near(made: EqualShares, decided: DecidedElection, projects: Projects) -> EqualShares:
     """The same outcome with the prices of a certificate."""
-    certificate = certified(town, projects, made.voter_budget, Payments(made.payments), stable=False, exhaustive=False)
+    certificate = certified(decided, projects, made.voter_budget, Payments(made.payments), stable=False, exhaustive=False)
     payments: List[Dict[str, Fraction]] = [{} for _ in made.payments]
     for voter, name, numerator in certificate.rows:
         payments[voter - 1][name] = Fraction(numerator, certificate.denominator)

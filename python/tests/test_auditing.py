@@ -298,14 +298,17 @@ class Audits(unittest.TestCase):
         text = b"supported priceable\n\nany line\n\ntake any voters: y\nnearest to that comes z\n"
         sums = {"amount": "2500000", "bound": "3000000", "project": None, "voter": None}
         condition = {"asked": False, "culprits": 1, "first": None, "holds": False, "name": "Cover", "shown": sums}
+        nearest = {"cost": "9000000", "funded_for": "4500000", "number": 3, "project": "z",
+                   "share": {"denominator": 3, "numerator": "10000000"}, "supporters": 1}
         found = {**OBJECT, "conditions": [condition], "failed": None, "grains_per_unit": 10**6, "groups": "weak",
-                 "mode": {"stable": False}}
+                 "mode": {"stable": False}, "nearest": nearest}
         report = _auditor.Report(0, found, lambda: text)
         with mock.patch.object(_auditor, "_found", mock.Mock(ask=lambda question: report)):
             told = pbaudit.explain(b"", b"")
         sentence = "with --cover it fails: all voter budgets come to 2.50 together; the limit is 3.00"
         self.assertEqual(told.findings, (pbaudit.Finding("Cover", "not asked", sentence),))
         self.assertEqual(told.groups, ("take any voters: y", "nearest to that comes z"))
+        self.assertEqual(told.nearest, pbaudit.NearestGroup("z", 1, Fraction(10, 3), Fraction(9), Fraction(9, 2)))
         self.assertEqual(told.verdict.says_of_groups, "weak")
         self.assertEqual(str(told), text.decode())
 

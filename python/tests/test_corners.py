@@ -14,9 +14,9 @@ import pbaudit
 from finding_cases import Case, cases
 from pbaudit import CannotKeep, Instance, Project, price_certificate, validate_price_system
 from pbaudit.certificates import certified
+from pbaudit.decided import DecidedElection
 from pbaudit.rounding import Given
 from pbaudit.settling import clock_of
-from pbaudit.town import Town
 from pbaudit.values import Payments, ballots_of, projects_of
 
 # The solver's method, and the prices that it looks for: the form, and the objective.
@@ -136,8 +136,9 @@ class Corners(unittest.TestCase):
 
     def check_near(self, instance, profile, funded, budget, payments, stable):
         projects, costs, limit = projects_of(instance)
-        town = Town(projects.ids, costs, limit, {projects.place[name] for name in funded}, ballots_of(profile, projects))
-        made = certified(town, projects, budget, Payments(payments, projects), stable, False, is_near=True)
+        decided = DecidedElection(projects.ids, costs, limit, {projects.place[name] for name in funded},
+                                  ballots_of(profile, projects))
+        made = certified(decided, projects, budget, Payments(payments, projects), stable, False, is_near=True)
         # Its unit may be a smaller one.
         paid = {name: sum(numerator for _, other, numerator in made.rows if other == name) for name in funded}
         dearest = max(funded, key=projects.place.__getitem__, default=None)
@@ -189,10 +190,10 @@ class Corners(unittest.TestCase):
         from pbaudit.corrections import Reach, corrected
         names, x, y = ["a", "c", "clone"], Fraction("3.41234545145"), Fraction("2.111111274275")
         costs = [Fraction(7), x + 2 * y, Fraction(7)]
-        town = Town(names, costs, sum(costs), {0, 1}, [[0, 1, 2], [0, 2], [1], [1]])
+        decided = DecidedElection(names, costs, sum(costs), {0, 1}, [[0, 1, 2], [0, 2], [1], [1]])
         amounts = [x, x, 7 - x, y, y]
         given = Given(amounts, array("d", map(float, amounts)), Fraction(7), 7 * MILLIONTH)
-        found = corrected(town, given, True, Reach(7e-6, 10**9, True), clock_of(30))
+        found = corrected(decided, given, True, Reach(7e-6, 10**9, True), clock_of(30))
         for_a, for_c, of_2, *others = found.amounts
         self.assertGreaterEqual(for_a - for_c, Fraction(7, 10**11))
         self.assertLessEqual(abs(for_a + of_2 - 7), Fraction(2, 10**9))

@@ -1,4 +1,5 @@
 """The command that pip installs: what it hands over to the program, what the package answers, and what it loads first."""
+import argparse
 import importlib.util
 import io
 import os
@@ -181,6 +182,22 @@ class Workers(unittest.TestCase):
         with mock.patch.object(folders, "audit_folder", audited), mock.patch("builtins.print"):
             self.assertEqual(command_line.main(["folder", str(EXAMPLES), "--workers", "1"]), 0)
         self.assertEqual(handlers, [signal.SIG_IGN])
+
+    def test_each_object_is_told_before_the_next_is_asked_for(self):
+        asked = []
+
+        def object_of(entry):
+            asked.append(entry.name)
+            return {"name": entry.name}
+        with mock.patch.object(folders, "entry_object", object_of):
+            told = audit_commands.audited_folder(argparse.Namespace(folder=EXAMPLES, json=True, workers=None))
+            self.assertEqual((next(told), asked), (('{"name":"district"}', 0), ["district"]))
+
+    def test_no_more_is_told_where_the_output_is_not_taken(self):
+        """Nor is more asked for: a fault ends it."""
+        with mock.patch.object(command_line, "_told", return_value=4) as told:
+            self.assertEqual(command_line.main(["folder", str(EXAMPLES), "--workers", "2", "--json"]), 4)
+        self.assertEqual(told.call_count, 1)
 
     def test_what_is_left_out_is_told(self):
         """As the program tells it, of elections."""

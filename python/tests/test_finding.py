@@ -53,7 +53,7 @@ def by_program(election, certificate, command, *options):
 # What is answered on what is found without --stable and --cover.
 YES = ("supported priceable", "unpriceable", "violation")
 # In the place of water-filling, so that all is found by the programme.
-NO_WATER = mock.patch("pbaudit.finding.prices.by_water", lambda *_: (None, []))
+NO_WATER_FILLING = mock.patch("pbaudit.finding.prices.by_water_filling", lambda *_: (None, []))
 
 
 @contextlib.contextmanager
@@ -112,7 +112,7 @@ class Invented(unittest.TestCase):
         """However prices were found, it is what the auditor says of them."""
         for case in (case for seed in range(FEWER // 4) for case in cases(seed, ((10, 5), (20, 10)))):
             def budgets(problem, shares, need):
-                return iter(() if need.cover else (None, problem.town.limit / len(problem.town.ballots)))
+                return iter(() if need.cover else (None, problem.decided.limit / len(problem.decided.ballots)))
             with mock.patch("pbaudit.finding.prices._voter_budgets", budgets):
                 found = pbaudit.find(case.file(), violation=False).prices
             if found:
@@ -155,7 +155,7 @@ class Invented(unittest.TestCase):
     def test_by_the_programme_alone(self):
         tally = {True: 0, False: 0}
         for case in (case for seed in range(FEWER // 4) for case in cases(seed, ((10, 5), (20, 10), (30, 12)))):
-            with self.subTest(case=case.name), NO_WATER:
+            with self.subTest(case=case.name), NO_WATER_FILLING:
                 file = case.file()
                 found = pbaudit.find(file, violation=False)
                 for line in audits(file, found):
@@ -171,7 +171,7 @@ class Invented(unittest.TestCase):
         tally, stuck = {True: 0, False: 0}, 0
         for case in (case for seed in range(FEWER // 4) for case in cases(seed, ((10, 5), (20, 10), (30, 12)))):
             for cover in (False, True):
-                with self.subTest(case=case.name, cover=cover), NO_WATER, all_by_steps() as programme:
+                with self.subTest(case=case.name, cover=cover), NO_WATER_FILLING, all_by_steps() as programme:
                     file = case.file()
                     found = pbaudit.find(file, violation=False, cover=cover)
                     for line in audits(file, found):
@@ -256,7 +256,7 @@ class Invented(unittest.TestCase):
         for case in cases(2):
             for switches in ({}, {"stable": True}):
                 first, second = pbaudit.find(case.file(), **switches), pbaudit.find(case.file(), **switches)
-                with NO_WATER:
+                with NO_WATER_FILLING:
                     third, fourth = pbaudit.find(case.file(), **switches), pbaudit.find(case.file(), **switches)
                 for one, other in ((first, second), (third, fourth)):
                     self.assertEqual(*([each.prices and each.prices.file, each.refutation, each.violations, each.sentences]
@@ -334,7 +334,7 @@ class Edges(unittest.TestCase):
         with nothing to spare."""
         for voters, limit in ((10, 10), (6, 4), (14, 1), (2, Fraction(1, 10**6) * 2)):
             town = [limit / Fraction(2)] * 2, limit, [[0]] * (voters // 2) + [[1]] * (voters // 2), [1]
-            with NO_WATER:
+            with NO_WATER_FILLING:
                 self.assertFalse(self.find(*town, violation=False).prices.cover)
             self.assertGreater(self.find(*town, violation=False, cover=True).refutation.cover, 0)
             found = self.find(*town)

@@ -15,21 +15,21 @@ from finding_cases import Case, best_margin, cases, gain, is_refutation, odd_cas
 HAS_SCIPY = unittest.skipUnless(importlib.util.find_spec("scipy"), "scipy isn't installed")
 # Has few ballots decided by the method too, and not by water-filling before.
 FOR_FEW = mock.patch.multiple("pbaudit.finding.deciding", MANY=0, MANY_STABLE=0)
-NO_WATER = mock.patch.multiple("pbaudit.finding.prices", by_water=lambda *_: (None, []))
+NO_WATER_FILLING = mock.patch.multiple("pbaudit.finding.prices", by_water_filling=lambda *_: (None, []))
 FORMS = [(stable, cover) for stable in (False, True) for cover in (False, True)]
 # Below this, what is left to spare may be lost by rounding.
 SPARE = 1e-4
 
 
 def problem_of_case(case):
+    from pbaudit.decided import DecidedElection
     from pbaudit.finding.groups import groups_of
     from pbaudit.finding.shares import problem_of
-    from pbaudit.town import Town
     from pbaudit.values import Ballots
     names = [f"p{at}" for at in range(len(case.costs))]
     costs = [Fraction(cost) for cost in case.costs]
-    town = Town(names, costs, Fraction(case.limit), case.funded, Ballots(case.ballots))
-    return problem_of(town, groups_of(town))
+    decided = DecidedElection(names, costs, Fraction(case.limit), case.funded, Ballots(case.ballots))
+    return problem_of(decided, groups_of(decided))
 
 
 def some_problems():
@@ -172,11 +172,11 @@ class Deciding:
     def by_method(self, problem, need):
         from pbaudit.finding import deciding, shares
         from pbaudit.finding.clock import Clock
-        decided = deciding.Search(problem, need).decision(Clock(60))
-        if decided.shares is not None:
-            low, high = shares.budgets(problem, decided.shares, need.stable)
+        decision = deciding.Search(problem, need).decision(Clock(60))
+        if decision.shares is not None:
+            low, high = shares.budgets(problem, decision.shares, need.stable)
             self.test.assertLess(max(low, need.cover * problem.share), high)
-        return decided.weights
+        return decision.weights
 
     @staticmethod
     def by_highs(problem, need):
@@ -252,7 +252,7 @@ class Decided(unittest.TestCase):
         """There are prices, but none with Cover: by much, and by nothing."""
         for case in (Case("cheap", [1, 3], 10, [[0]] * 5 + [[1]] * 5, [0]),
                      Case("tie", [5, 5], 10, [[0]] * 5 + [[1]] * 5, [1])):
-            with FOR_FEW, NO_WATER:
+            with FOR_FEW, NO_WATER_FILLING:
                 plain, covered = (pbaudit.find(case.file(), violation=False, cover=each) for each in (False, True))
                 refuted = pbaudit.find(case.file(), prices=False, violation=False)
             self.assertFalse(plain.prices.cover)
@@ -281,19 +281,19 @@ class Decided(unittest.TestCase):
 import random, resource, sys
 from fractions import Fraction
 sys.path.insert(0, {place!r})
+from pbaudit.decided import DecidedElection
 from pbaudit.finding.clock import Clock
 from pbaudit.finding.deciding import Search
 from pbaudit.finding.groups import groups_of
 from pbaudit.finding.shares import Need, problem_of
-from pbaudit.town import Town
 from pbaudit.values import Ballots
 chance = random.Random(1)
 ballots = [sorted(chance.sample(range(60), 8)) for _ in range(20000)]
-town = Town([str(at) for at in range(60)], [Fraction(chance.randint(2000, 9000)) for _ in range(60)], Fraction(120000),
-            set(range(20)), Ballots(ballots))
-problem = problem_of(town, groups_of(town))
+decided = DecidedElection([str(at) for at in range(60)], [Fraction(chance.randint(2000, 9000)) for _ in range(60)],
+                          Fraction(120000), set(range(20)), Ballots(ballots))
+problem = problem_of(decided, groups_of(decided))
 before = resource.getrusage(resource.RUSAGE_SELF).ru_maxrss
-decided = Search(problem, Need(True, True)).decision(Clock(600))
+decision = Search(problem, Need(True, True)).decision(Clock(600))
 print(len(problem.groups), resource.getrusage(resource.RUSAGE_SELF).ru_maxrss - before)
 """
 

@@ -350,6 +350,7 @@ class Commands(unittest.TestCase):
         few = pbaudit.write_election(Instance([Project("a", 1)], Fraction("0.9")), [["a"]] * 3)
         for data in (many, few, (EXAMPLES / "district.pb").read_bytes()):
             town.write_bytes(data)
+            (self.room / "town.outcome.csv").unlink(missing_ok=True)
             done = run(town, "-o", certificate)
             told = re.search("^certificate over the denominator (\\d+), (.*), as it was audited:$", done.stdout, re.MULTILINE)
             election = election_of(data)
@@ -385,6 +386,25 @@ class Commands(unittest.TestCase):
         self.assertEqual((done.returncode, done.stderr), (0, ""))
         self.assertIn("voter budget 1000000001/1999000000; 0 projects for 0:\n", done.stdout)
         self.assertTrue(pbaudit.audit_prices(town, self.room / "t.prices.csv", self.room / "t.outcome.csv"))
+
+    def test_another_outcome_is_not_replaced(self):
+        """Its file is one that nobody named; the certificate's is."""
+        prices, outcome = self.room / "d.prices.csv", self.room / "d.outcome.csv"
+        kept = (EXAMPLES / "district.other.outcome.csv").read_bytes()
+        outcome.write_bytes(kept)
+        done = run(EXAMPLES / "district.pb", "-o", prices)
+        self.assertEqual((done.returncode, done.stdout), (4, ""))
+        self.assertEqual(done.stderr, f"fault write: {outcome}: another outcome is there, and stays: remove it, or write to "
+                                      "another CERTIFICATE\n")
+        self.assertEqual((outcome.read_bytes(), prices.exists()), (kept, False))
+        # What was written once may be written again.
+        outcome.unlink()
+        for _ in range(2):
+            self.assertEqual(run(EXAMPLES / "district.pb", "-o", prices).returncode, 1)
+        # The election's own outcome has no file, and so replaces none.
+        outcome.write_bytes(kept)
+        done = run(EXAMPLES / "district.pb", "--completion", "add1", "-o", prices)
+        self.assertEqual((done.returncode, outcome.read_bytes()), (0, kept))
 
     def test_names_are_shown_and_none_is_a_command(self):
         """Names that try to move a terminal's cursor, to begin a line or to be an option; and an output in ASCII."""

@@ -180,7 +180,7 @@ class Calls(Keyboard):
                 raise KeyboardInterrupt
             return solved(given, need, *more)
         told = []
-        with mock.patch.object(prices, "by_water", return_value=(None, [])), \
+        with mock.patch.object(prices, "by_water_filling", return_value=(None, [])), \
                 mock.patch.object(prices, "_solved", stop_at_cover), self.assertRaises(Stopped) as caught:
             pbaudit.find(TIE.file(), on_found=told.append)
         self.assertEqual((needs, told), ([False, True], [caught.exception.found.prices]))

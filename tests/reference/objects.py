@@ -61,11 +61,18 @@ def of_test(name, failing, **keys):
     return {"holds": not failing, "name": name, **keys}
 
 
+def millionths(amount):
+    """An amount of the currency in millionths, of which it is a whole number."""
+    whole = amount * MILLION
+    assert whole == int(whole)
+    return str(int(whole))
+
+
 class PriceObject:
     """The object about prices."""
 
-    def __init__(self, claim, mode):
-        self.claim, self.election, self.mode = claim, claim.election, mode
+    def __init__(self, claim, mode, explained):
+        self.claim, self.election, self.mode, self.explained = claim, claim.election, mode, explained
         self.grains_per_unit = MILLION * claim.prices.denominator
         self.total = claim.cost_of(claim.funded())
         self.budgets = len(self.election.ballots) * claim.budget
@@ -88,6 +95,7 @@ class PriceObject:
             grains_per_unit=self.grains_per_unit,
             groups=None if failure else said_of_groups(self.claim, self.mode),
             limit=self.grains(self.claim.limit),
+            nearest=None if failure or not self.explained else self.nearest(),
             mode={
                 "cover": "--cover" in self.mode,
                 "exhaustive": "--no-exhaustive" not in self.mode,
@@ -97,6 +105,21 @@ class PriceObject:
             total=self.grains(self.total),
             voter_budget=self.grains(self.claim.budget),
         )
+
+    def nearest(self):
+        """The unfunded project whose supporters come nearest to what a yes says of groups, unless that is little."""
+        voters, claim = len(self.election.ballots), self.claim
+        if said_of_groups(claim, self.mode) == "little" or not voters:
+            return None
+        project = closest(claim.unfunded(), claim.surplus)
+        return project and {
+            "cost": millionths(claim.cost(project)),
+            "funded_for": millionths(claim.funded_for(project)),
+            "number": project,
+            "project": self.election.id(project).decode(),
+            "share": {"denominator": voters, "numerator": millionths(claim.share(project) * voters)},
+            "supporters": len(self.election.supporters(project)),
+        }
 
     def conditions(self):
         """Each condition, with the two sums that it compares at a place."""
@@ -251,6 +274,7 @@ class Objects:
 
     def __init__(self, mode, outcome, measure):
         self.mode, self.outcome, self.by_cost = mode, outcome, measure == "cost"
+        self.explained = False
 
     def read(self, election):
         return an_object("election", "yes", election=of_election(take("election", read_election, election)))
@@ -260,7 +284,8 @@ class Objects:
 
     def prices(self, election, certificate):
         election, funded = self.audited(election)
-        return of_prices(election, funded, take("certificate", read_prices, certificate, election), self.mode)
+        prices = take("certificate", read_prices, certificate, election)
+        return of_prices(election, funded, prices, self.mode, self.explained)
 
     def violation(self, election, certificate):
         election, funded = self.audited(election)
@@ -279,8 +304,9 @@ class Objects:
         return an_object("both", answer, prices=prices, violation=violation)
 
     def explain(self, election, certificate):
-        """That of the command for the kind of the certificate."""
+        """That of the command for the kind of the certificate; of prices with the group that comes nearest."""
         self.audited(election)
+        self.explained = True
         command = kind_of(take("certificate", bytes, certificate))
         return getattr(self, command)(election, certificate)
 
@@ -290,8 +316,8 @@ class Objects:
         return election, take_outcome(election, self.outcome)
 
 
-def of_prices(election, funded, prices, mode):
-    return PriceObject(conditions.Claim(election, funded, prices), mode).whole()
+def of_prices(election, funded, prices, mode, explained=False):
+    return PriceObject(conditions.Claim(election, funded, prices), mode, explained).whole()
 
 
 def of_refusal(name, refusal):

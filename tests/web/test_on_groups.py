@@ -63,7 +63,7 @@ def test_a_group_that_falls_short(opened, tmp_path):
         "3 of the 3 voters who want “The yard”: their equal part of the limit is 9\u00a0EUR. The project costs 2\u00a0EUR; on no "
         "one’s ballot among them do the funded projects cost more than 6\u00a0EUR. 2 + 6 = 8 is no more than 9. This doesn’t say "
         "that the project could simply be added.")
-    assert told["means"].startswith("The limit, handed out in equal parts, would have given these 3 voters 9\u00a0EUR.")
+    assert told["means"].startswith("The limit, handed out in equal parts, would have given this group 9\u00a0EUR.")
     assert "for whom no more than 6\u00a0EUR was funded" in told["means"]
     # By count they have to have twice the cost, since one of them got one project.
     assert told["count"] == (

@@ -13,28 +13,28 @@ use Rattle.pb_input.specs.declared.InputRefusal.{InputRefusal}
 use Rattle.pb_audit.specs.InTurn.{ReadsAudit, ReadsTidy}
 use Rattle.pb_reply.specs.Turns.{FileTurn, Turn}
 use Rattle.pb_audit.specs.Inside.Certificates.{AnswersCertificate, IfTold, Promised, Tells, TidiesPrices}
-use Rattle.pb_reply.specs.Inside.Taking.{AuditsOutcome, Gives, GivesOutcome, IfTaken, settled, stopped}
-use Rattle.pb_reply.specs.declared.stop.Stop.{Stop}
-use Rattle.pb_reply.specs.declared.stop.Stop.TheVariants as stop
+use Rattle.pb_reply.specs.Inside.Taking.{AuditsOutcome, Gives, GivesOutcome, IfTaken, or_refusal, reply_why}
+use Rattle.pb_reply.specs.declared.unanswered.Unanswered.{Unanswered}
+use Rattle.pb_reply.specs.declared.unanswered.Unanswered.TheVariants as unanswered
 use Rattle.pb_reply.specs.declared.status.Status.{Status}
-use Rattle.pb_reply.specs.contracts.stop.StopFromAllocError.TheImpl.{from_gives-value}
+use Rattle.pb_reply.specs.contracts.unanswered.UnansweredFromAllocError.TheImpl.{from_gives-value}
 use Rattle.std.specs.Result.{IsErr, IsErrAnd}
 use Rattle.std.specs.declared.alloc.AllocError.{AllocError}
 
 -- What is told of some replies is told of others, where each of those is one of these.
 pub told_weaker : {T : Type 0} (told : Reply → T) (P Q : Reply → Type 0) → ((r : Reply) → P r → Q r)
-    → (work : Result T Stop) → IfTold told P work → IfTold told Q work
+    → (work : Result T Unanswered) → IfTold told P work → IfTold told Q work
 told_weaker told P Q each work is = grind arith
 
 -- The lines that are told of a reply are the reply.
-pub lines_told : (P Q : Reply → Type 0) → ((r : Reply) → P r → Q r) → (work : Result Reply Stop)
-    → IfSome (settled (λ r. r) work) P → IfTold (λ r. r) Q work
+pub lines_told : (P Q : Reply → Type 0) → ((r : Reply) → P r → Q r) → (work : Result Reply Unanswered)
+    → IfSome (or_refusal (λ r. r) work) P → IfTold (λ r. r) Q work
 lines_told P Q each work is = grind arith
 
 -- What the work came to is told of one of these replies.
-pub settled_told : {T : Type 0} (told : Reply → T) (is_reply : Reply → Type 0) (work : Result T Stop) (own : T)
-    → settled told work ≡ Some own → IfTold told is_reply work → Tells told is_reply own
-settled_told told is_reply work own is h = grind arith
+pub or_refusal_told : {T : Type 0} (told : Reply → T) (is_reply : Reply → Type 0) (work : Result T Unanswered) (own : T)
+    → or_refusal told work ≡ Some own → IfTold told is_reply work → Tells told is_reply own
+or_refusal_told told is_reply work own is h = grind arith
 
 -- An audit of an election, an outcome and a certificate. Where the election is refused, the others may state anything.
 abbrev pub election_refused : {A : Type 0} (rules : AuditRules A)
@@ -103,19 +103,19 @@ certificate_answered {A} rules each election outcome certificate e w r given tak
       taken.is (promised_of rules each e w certificate answered.c r answered.given answered.out);
 }
 
--- The same where the work stopped.
+-- The same where the work gave nothing.
 pub stopped_at_outcome : {A : Type 0} (rules : AuditRules A)
-    (election : Delivery) (outcome : Option Delivery) (certificate : Delivery) (e : Instance) (why : Stop)
+    (election : Delivery) (outcome : Option Delivery) (certificate : Delivery) (e : Instance) (why : Unanswered)
     → StatesElection election (Ok e) → IfTaken {A = List Bool} (Err why) (AuditsOutcome e outcome)
-    → IfSome (stopped why) (AnswersAudit rules election outcome certificate)
-stopped_at_outcome rules election outcome certificate e (stop.Refused r) given taken =
+    → IfSome (reply_why why) (AnswersAudit rules election outcome certificate)
+stopped_at_outcome rules election outcome certificate e (unanswered.Refused r) given taken =
     outcome_refused rules election outcome certificate e r given taken
-stopped_at_outcome rules election outcome certificate e stop.Memory given taken = tt
+stopped_at_outcome rules election outcome certificate e unanswered.Memory given taken = tt
 
 pub certificate_settled : {A T : Type 0} (rules : AuditRules A) (told : Reply → T)
     → Promised rules
     → (election : Delivery) (outcome : Option Delivery) (certificate : Delivery) (e : Instance) (w : List Bool)
-    (work : Result T Stop)
+    (work : Result T Unanswered)
     → StatesElection election (Ok e) → AuditsOutcome e outcome (Ok w)
     → IfTold told (AnswersCertificate rules.states rules.reply e w certificate) work
     → IfTold told (AnswersAudit rules election outcome certificate) work
@@ -124,10 +124,10 @@ certificate_settled rules told each election outcome certificate e w work given 
 
 -- The same on inputs in their turn.
 unfoldable pub ended_at_election : {A : Type 0} (rules : AuditRules A)
-    (election : Turn) (outcome : FileTurn) (certificate : Turn) (why : Stop)
+    (election : Turn) (outcome : FileTurn) (certificate : Turn) (why : Unanswered)
     → IfTaken {A = Instance} (Err why) (Gives StatesElection election) → outcome None → certificate None
-    → IfSome (stopped why) (ReadsAudit rules election outcome certificate)
-ended_at_election rules election outcome certificate (stop.Refused r) given outcome_left certificate_left = record {
+    → IfSome (reply_why why) (ReadsAudit rules election outcome certificate)
+ended_at_election rules election outcome certificate (unanswered.Refused r) given outcome_left certificate_left = record {
   of_election = given.delivery;
   of_outcome = None;
   of_certificate = delivery.Read;
@@ -136,13 +136,13 @@ ended_at_election rules election outcome certificate (stop.Refused r) given outc
   outcome_delivered = outcome_left;
   certificate_delivered = certificate_left;
 }
-ended_at_election rules election outcome certificate stop.Memory given outcome_left certificate_left = tt
+ended_at_election rules election outcome certificate unanswered.Memory given outcome_left certificate_left = tt
 
 unfoldable pub ended_at_outcome : {A : Type 0} (rules : AuditRules A)
-    (election : Turn) (outcome : FileTurn) (certificate : Turn) (e : Instance) (why : Stop)
+    (election : Turn) (outcome : FileTurn) (certificate : Turn) (e : Instance) (why : Unanswered)
     → Gives StatesElection election (Ok e) → IfTaken {A = List Bool} (Err why) (GivesOutcome e outcome)
-    → certificate None → IfSome (stopped why) (ReadsAudit rules election outcome certificate)
-ended_at_outcome rules election outcome certificate e (stop.Refused r) given taken certificate_left = record {
+    → certificate None → IfSome (reply_why why) (ReadsAudit rules election outcome certificate)
+ended_at_outcome rules election outcome certificate e (unanswered.Refused r) given taken certificate_left = record {
   of_election = given.delivery;
   of_outcome = taken.delivery;
   of_certificate = delivery.Read;
@@ -153,7 +153,7 @@ ended_at_outcome rules election outcome certificate e (stop.Refused r) given tak
       subst (λ (o : Stated (List Bool)). InTurn o (λ w. certificate (Some delivery.Read)) (certificate None))
       taken.audits.is certificate_left;
 }
-ended_at_outcome rules election outcome certificate e stop.Memory given taken certificate_left = tt
+ended_at_outcome rules election outcome certificate e unanswered.Memory given taken certificate_left = tt
 
 unfoldable pub answered : {A : Type 0} (rules : AuditRules A)
     → Promised rules
@@ -176,7 +176,7 @@ answered rules each election outcome certificate e w d r given taken delivered f
 pub answer_settled : {A T : Type 0} (rules : AuditRules A) (told : Reply → T)
     → Promised rules
     → (election : Turn) (outcome : FileTurn) (certificate : Turn) (e : Instance) (w : List Bool) (d : Delivery)
-    (work : Result T Stop)
+    (work : Result T Unanswered)
     → Gives StatesElection election (Ok e) → GivesOutcome e outcome (Ok w) → certificate (Some d)
     → IfTold told (AnswersCertificate rules.states rules.reply e w d) work
     → IfTold told (ReadsAudit rules election outcome certificate) work
@@ -199,24 +199,24 @@ in_turn_tidied election certificate e p d answer given states delivered out = re
   certificate_delivered = delivered;
 }
 
-pub tidy_ended : (election certificate : Turn) (why : Stop)
+pub tidy_ended : (election certificate : Turn) (why : Unanswered)
     → IfTaken {A = Instance} (Err why) (Gives StatesElection election) → certificate None
-    → IfSome (settled answer_of (Err why)) (ReadsTidy election certificate)
-tidy_ended election certificate (stop.Refused r) given certificate_left =
+    → IfSome (or_refusal answer_of (Err why)) (ReadsTidy election certificate)
+tidy_ended election certificate (unanswered.Refused r) given certificate_left =
     in_turn_tidied election certificate (Err r) (Err r) delivery.Read _ given tt certificate_left refl
-tidy_ended election certificate stop.Memory given certificate_left = tt
+tidy_ended election certificate unanswered.Memory given certificate_left = tt
 
-pub tidy_answered : (election certificate : Turn) (e : Instance) (d : Delivery) (work : Result (Answer Status) Stop)
+pub tidy_answered : (election certificate : Turn) (e : Instance) (d : Delivery) (work : Result (Answer Status) Unanswered)
     → Gives StatesElection election (Ok e) → certificate (Some d) → IfTaken work (TidiesPrices e d)
-    → IfSome (settled answer_of work) (ReadsTidy election certificate)
+    → IfSome (or_refusal answer_of work) (ReadsTidy election certificate)
 tidy_answered election certificate e d (Ok answer) given delivered tidied =
     in_turn_tidied election certificate (Ok e) (Ok tidied.0) d answer given tidied.1.0 delivered tidied.1.1
-tidy_answered election certificate e d (Err (stop.Refused r)) given delivered tidied =
+tidy_answered election certificate e d (Err (unanswered.Refused r)) given delivered tidied =
     in_turn_tidied election certificate (Ok e) (Err r) d _ given tidied delivered refl
-tidy_answered election certificate e d (Err stop.Memory) given delivered tidied = tt
+tidy_answered election certificate e d (Err unanswered.Memory) given delivered tidied = tt
 
 -- a failed allocation is told as out of memory
-pub memory_told : {T : Type 0} (r : Result T Stop) (e : AllocError)
-    → IsErr r × IsErrAnd r (from_gives-value.it e) → r ≡ Err stop.Memory
+pub memory_told : {T : Type 0} (r : Result T Unanswered) (e : AllocError)
+    → IsErr r × IsErrAnd r (from_gives-value.it e) → r ≡ Err unanswered.Memory
 memory_told (Ok x) e h = absurd h.1
 memory_told (Err s) e h = ap Err h.1

@@ -20,10 +20,10 @@ use Rattle.pb_reply.specs.Inputs.{InTurn, Stated, StatesElection, StatesPrices, 
 use Rattle.pb_input.specs.declared.InputRefusal.{InputRefusal}
 use Rattle.pb_reply.specs.Turns.{FileTurn, Turn}
 use Rattle.pb_audit.specs.Inside.Certificates.{AnswersCertificate, FindsPrices, Promised}
-use Rattle.pb_reply.specs.Inside.Taking.{Gives, GivesOutcome, IfTaken, settled}
+use Rattle.pb_reply.specs.Inside.Taking.{Gives, GivesOutcome, IfTaken, or_refusal}
 use Rattle.pb_input.specs.declared.InputName.TheVariants as name
-use Rattle.pb_reply.specs.declared.stop.Stop.{Stop}
-use Rattle.pb_reply.specs.declared.stop.Stop.TheVariants as stop
+use Rattle.pb_reply.specs.declared.unanswered.Unanswered.{Unanswered}
+use Rattle.pb_reply.specs.declared.unanswered.Unanswered.TheVariants as unanswered
 use Rattle.pb_reply.specs.declared.status.Status.{Status}
 use Rattle.pb_reply.specs.declared.status.Status.TheVariants.{Yes}
 use Rattle.pb_audit.proofs.Audits.{answered, ended_at_election, ended_at_outcome}
@@ -51,7 +51,7 @@ both_promise m e w d p claim states group demand =
       prices = on_prices;
       violation = on_claim;
       never_both =
-          λ stable strict counting supports violates. on_prices.covered_yes (on_prices.exactly.1 supports) stable strict
+          λ stable strict counting supports violates. (on_prices.yes (on_prices.exactly.1 supports)).ejr stable strict
           claim.1 claim.2 group demand
           (subst (λ (k : Measure). Violates (worth_by k e) e w claim.1 claim.2) counting violates);
     }
@@ -85,42 +85,42 @@ both_answered m e w prices violation f r found answered = record {
   out = answered.out
       ∙ ap (λ (g : Findings). with_input answered.c (λ claim. beside m g e w claim)) found.1.1
       ∙ ap (λ (v : Verdict). with_input answered.c (λ claim. joined (both_text m e w v (findings e w found.0) claim)
-      (verdict_reply m e w v (findings e w found.0)) (violation_reply e w claim)))
+      (verdict_reply m e w v (findings e w found.0) None) (violation_reply e w claim)))
       (told_verdict m e w found.0 (denominator-low name.Prices e prices found.0 found.1.0));
 }
 
 -- The same on inputs in their turn.
-pub both_ended_at_election : (m : Mode) (election : Turn) (outcome : FileTurn) (prices violation : Turn) (why : Stop)
+pub both_ended_at_election : (m : Mode) (election : Turn) (outcome : FileTurn) (prices violation : Turn) (why : Unanswered)
     → IfTaken {A = Instance} (Err why) (Gives StatesElection election)
     → outcome None → prices None → violation None
-    → IfSome (settled (λ r. r) (Err why)) (ReadsBoth m election outcome prices violation)
+    → IfSome (or_refusal (λ r. r) (Err why)) (ReadsBoth m election outcome prices violation)
 unfolding ended_at_election
-both_ended_at_election m election outcome prices violation (stop.Refused r) given outcome_left prices_left violation_left =
+both_ended_at_election m election outcome prices violation (unanswered.Refused r) given outcome_left prices_left violation_left =
     record {
       of_violation = delivery.Read;
-      reads = ended_at_election (both_rules m delivery.Read) election outcome prices (stop.Refused r) given outcome_left
+      reads = ended_at_election (both_rules m delivery.Read) election outcome prices (unanswered.Refused r) given outcome_left
           prices_left;
       violation_delivered = violation_left;
     }
-both_ended_at_election m election outcome prices violation stop.Memory given outcome_left prices_left violation_left =
+both_ended_at_election m election outcome prices violation unanswered.Memory given outcome_left prices_left violation_left =
     tt
 
 pub both_ended_at_outcome : (m : Mode) (election : Turn) (outcome : FileTurn) (prices violation : Turn) (e : Instance)
-    (why : Stop)
+    (why : Unanswered)
     → Gives StatesElection election (Ok e) → IfTaken {A = List Bool} (Err why) (GivesOutcome e outcome)
     → prices None → violation None
-    → IfSome (settled (λ r. r) (Err why)) (ReadsBoth m election outcome prices violation)
+    → IfSome (or_refusal (λ r. r) (Err why)) (ReadsBoth m election outcome prices violation)
 unfolding ended_at_outcome
-both_ended_at_outcome m election outcome prices violation e (stop.Refused r) given taken prices_left violation_left =
+both_ended_at_outcome m election outcome prices violation e (unanswered.Refused r) given taken prices_left violation_left =
     record {
       of_violation = delivery.Read;
-      reads = ended_at_outcome (both_rules m delivery.Read) election outcome prices e (stop.Refused r) given taken
+      reads = ended_at_outcome (both_rules m delivery.Read) election outcome prices e (unanswered.Refused r) given taken
           prices_left;
       violation_delivered =
           subst (λ (o : Stated (List Bool)). InTurn o (λ w. violation None) (violation None)) taken.audits.is
           violation_left;
     }
-both_ended_at_outcome m election outcome prices violation e stop.Memory given taken prices_left violation_left = tt
+both_ended_at_outcome m election outcome prices violation e unanswered.Memory given taken prices_left violation_left = tt
 
 -- the election and the outcome are accepted
 abbrev both_in_turn : (m : Mode) (election : Turn) (outcome : FileTurn) (prices violation : Turn) (e : Instance)
@@ -142,15 +142,15 @@ both_in_turn m election outcome prices violation e w of_prices of_violation r gi
 }
 
 pub both_ended_at_prices : (m : Mode) (election : Turn) (outcome : FileTurn) (prices violation : Turn) (e : Instance)
-    (w : List Bool) (why : Stop)
+    (w : List Bool) (why : Unanswered)
     → Gives StatesElection election (Ok e) → GivesOutcome e outcome (Ok w)
     → IfTaken {A = Findings} (Err why) (Gives (FindsPrices name.Prices e w) prices)
     → violation None
-    → IfSome (settled (λ r. r) (Err why)) (ReadsBoth m election outcome prices violation)
-both_ended_at_prices m election outcome prices violation e w (stop.Refused r) given taken judged violation_left =
+    → IfSome (or_refusal (λ r. r) (Err why)) (ReadsBoth m election outcome prices violation)
+both_ended_at_prices m election outcome prices violation e w (unanswered.Refused r) given taken judged violation_left =
     both_in_turn m election outcome prices violation e w judged.delivery delivery.Read _ given taken judged.delivered
     (prices_refused m e w judged.delivery delivery.Read r judged.stating) violation_left
-both_ended_at_prices m election outcome prices violation e w stop.Memory given taken judged violation_left = tt
+both_ended_at_prices m election outcome prices violation e w unanswered.Memory given taken judged violation_left = tt
 
 pub both_settled : (m : Mode) (election : Turn) (outcome : FileTurn) (prices violation : Turn) (e : Instance)
     (w : List Bool) (f : Findings) (d : Delivery) (work : Option Reply)

@@ -1,6 +1,6 @@
 -- The answers of `explain`.
-use Rattle.std.proofs.Common.{◌≡◌, ◌∙◌, ◌++◌, ap, get_or, ℕ, Bool, List, [], ◌≤◌, ◌^◌, refl, subst, sym, arith}
-use Rattle.std.specs.Prelude.{ℤ, pos, ◌-ℤ◌, IfSome, Result, Ok, Err, slice_get}
+use Rattle.std.proofs.Common.{◌≡◌, ◌∙◌, ap, get_or, ℕ, Bool, List, [], ◌≤◌, ◌^◌, refl, subst, sym, arith}
+use Rattle.std.specs.Prelude.{ℤ, pos, ◌-ℤ◌, IfSome, Result, Ok, Err, None, slice_get}
 use Rattle.std.specs.List.{AllByRecursion}
 use Rattle.pb_records.specs.Loading.{Delivery}
 use Rattle.pb_records.proofs.Each.{all-filter, all-first}
@@ -25,8 +25,8 @@ use Rattle.pb_cohesion.specs.declared.ViolationVerdict.{ViolationVerdict}
 use Rattle.pb_price.specs.declared.OnGroups.{OnGroups}
 use Rattle.pb_price.specs.declared.OnGroups.TheVariants.{Strict, Weak, Little}
 use Rattle.pb_price.proofs.Told.{tell-first}
-use Rattle.pb_explain.specs.GroupLines.{below_reach, claim, group_lines, not_shown, within_reach}
-use Rattle.pb_explain.specs.PriceTable.{NameProjects, ShowsProject, price_table}
+use Rattle.pb_explain.specs.GroupLines.{below_reach, claim, not_shown, within_reach}
+use Rattle.pb_explain.specs.PriceTable.{NameProjects, ShowsProject}
 use Rattle.pb_reply.specs.Replies.{Reply, with_input}
 use Rattle.pb_audit.specs.Answers.{price_reply, verdict_reply}
 use Rattle.pb_json.specs.Prices.{FindingsNameProjects, VerdictNamesProject}
@@ -35,14 +35,14 @@ use Rattle.pb_json.specs.Violations as of_group
 use Rattle.pb_json.proofs.Named as named
 use Rattle.pb_reply.specs.Named.{PricesNameProject, RefutationNamesProject, ViolationNamesProject}
 use Rattle.pb_reply.specs.Promises.{PricesPromise}
-use Rattle.pb_audit.specs.Explained.{IsSoOfGroups, groups_told, explained_prices, explained_refutation, explained_reply, explained_rules, explained_violation, with_table}
+use Rattle.pb_audit.specs.Explained.{IsSoOfGroups, explained_prices, explained_refutation, explained_reply, explained_rules, explained_verdict, explained_violation, nearest_on_yes}
 use Rattle.pb_reply.specs.Certificates.{Certificate, OfPrices, OfRefutation, OfViolation, StatesCertificate, StatesKind, as_certificate, kind_in}
 use Rattle.pb_reply.specs.Inputs.{Stated, StatesPrices, StatesRefutation, StatesViolation}
 use Rattle.pb_audit.specs.Inside.Certificates.{AnswersCertificate, CanBeTold, IfTold, Promised}
-use Rattle.pb_reply.specs.Inside.Taking.{settled}
+use Rattle.pb_reply.specs.Inside.Taking.{or_refusal}
 use Rattle.pb_input.specs.declared.InputName.{InputName}
 use Rattle.pb_input.specs.declared.InputName.TheVariants as name
-use Rattle.pb_reply.specs.declared.stop.Stop.{Stop}
+use Rattle.pb_reply.specs.declared.unanswered.Unanswered.{Unanswered}
 use Rattle.pb_reply.specs.declared.status.Status.{Status}
 use Rattle.pb_audit.proofs.Audits.{lines_told}
 use Rattle.pb_json.proofs.Named.{among-projects, named-either, named-first, projects-are, unapproved-name}
@@ -66,8 +66,8 @@ said-strict Little h = absurd (differ not_shown below_reach 0 h (λ same. omega 
 so_of_groups : (m : Mode) (status : Status) (e : Instance) (w : List Bool) (p : Prices) → PricesPromise m status e w p
     → IsSoOfGroups status e w (groups_by m e p)
 so_of_groups m status e w p promise = record {
-  reach = λ yes' told. subst (λ said. HoldsOfGroups said e w) (said-weak (groups_by m e p) told) (promise.groups_yes yes');
-  below = λ yes' told. subst (λ said. HoldsOfGroups said e w) (said-strict (groups_by m e p) told) (promise.groups_yes yes');
+  reach = λ yes' told. subst (λ said. HoldsOfGroups said e w) (said-weak (groups_by m e p) told) (promise.yes yes').groups;
+  below = λ yes' told. subst (λ said. HoldsOfGroups said e w) (said-strict (groups_by m e p) told) (promise.yes yes').groups;
 }
 
 pub explained_promise : (m : Mode) → Promised (explained_rules m)
@@ -79,9 +79,9 @@ explained_promise m e w d (OfRefutation r) given = certificate_promises m e w d 
 -- the reply on a certificate of one kind is that on one of any kind
 as_kind : {A : Type 0} (of : A → Certificate) (states : Instance → Delivery → Stated A → Type 0)
     (reply : Instance → List Bool → A → Reply) (m : Mode) (e : Instance) (w : List Bool) (d : Delivery)
-    (work : Result Reply Stop) → ((s : Stated A) → states e d s → StatesCertificate e d (as_certificate of s))
+    (work : Result Reply Unanswered) → ((s : Stated A) → states e d s → StatesCertificate e d (as_certificate of s))
     → ((a : A) → reply e w a ≡ explained_reply m e w (of a))
-    → IfSome (settled (λ r. r) work) (AnswersCertificate states reply e w d)
+    → IfSome (or_refusal (λ r. r) work) (AnswersCertificate states reply e w d)
     → IfTold (λ r. r) (AnswersCertificate StatesCertificate (explained_reply m) e w d) work
 as_kind {A} of states reply m e w d work taken same answers =
     lines_told _ _ (λ r found. go r found.c found.given found.out) work answers
@@ -91,26 +91,26 @@ as_kind {A} of states reply m e w d work taken same answers =
     go r (Ok a) given out = record { c = Ok (of a); given = taken (Ok a) given; out = out ∙ same a }
     go r (Err why) given out = record { c = Err why; given = taken (Err why) given; out = out }
 
-pub as_prices : (m : Mode) (e : Instance) (w : List Bool) (d : Delivery) (work : Result Reply Stop)
+pub as_prices : (m : Mode) (e : Instance) (w : List Bool) (d : Delivery) (work : Result Reply Unanswered)
     → kind_in d ≡ kind.Prices
-    → IfSome (settled (λ r. r) work) (AnswersCertificate (StatesPrices name.Certificate) (explained_prices m) e w d)
+    → IfSome (or_refusal (λ r. r) work) (AnswersCertificate (StatesPrices name.Certificate) (explained_prices m) e w d)
     → IfTold (λ r. r) (AnswersCertificate StatesCertificate (explained_reply m) e w d) work
 as_prices m e w d work is answers =
     as_kind OfPrices (StatesPrices name.Certificate) (explained_prices m) m e w d work
     (λ s given. subst (λ k. StatesKind k e d (as_certificate OfPrices s)) (sym is) (s, given, refl)) (λ p. refl) answers
 
-pub as_violation : (m : Mode) (e : Instance) (w : List Bool) (d : Delivery) (work : Result Reply Stop)
+pub as_violation : (m : Mode) (e : Instance) (w : List Bool) (d : Delivery) (work : Result Reply Unanswered)
     → kind_in d ≡ kind.Violation
-    → IfSome (settled (λ r. r) work) (AnswersCertificate (StatesViolation name.Certificate) explained_violation e w d)
+    → IfSome (or_refusal (λ r. r) work) (AnswersCertificate (StatesViolation name.Certificate) explained_violation e w d)
     → IfTold (λ r. r) (AnswersCertificate StatesCertificate (explained_reply m) e w d) work
 as_violation m e w d work is answers =
     as_kind OfViolation (StatesViolation name.Certificate) explained_violation m e w d work
     (λ s given. subst (λ k. StatesKind k e d (as_certificate OfViolation s)) (sym is) (s, given, refl)) (λ v. refl)
     answers
 
-pub as_refutation : (m : Mode) (e : Instance) (w : List Bool) (d : Delivery) (work : Result Reply Stop)
+pub as_refutation : (m : Mode) (e : Instance) (w : List Bool) (d : Delivery) (work : Result Reply Unanswered)
     → kind_in d ≡ kind.Refutation
-    → IfSome (settled (λ r. r) work) (AnswersCertificate StatesRefutation (explained_refutation m.stable) e w d)
+    → IfSome (or_refusal (λ r. r) work) (AnswersCertificate StatesRefutation (explained_refutation m.stable) e w d)
     → IfTold (λ r. r) (AnswersCertificate StatesCertificate (explained_reply m) e w d) work
 as_refutation m e w d work is answers =
     as_kind OfRefutation StatesRefutation (explained_refutation m.stable) m e w d work
@@ -187,12 +187,11 @@ told_verdict m e w p low = grind (arith, tell-first)
 -- the reply on the findings on prices is that on the prices
 pub findings_answer : (m : Mode) (e : Instance) (w : List Bool) (p : Prices) (f : Findings) → 1 ≤ p.denominator
     → f ≡ findings e w p
-    → verdict_reply m e w (verdict_of (first_told m f)) f ≡ price_reply m e w p
+    → verdict_reply m e w (verdict_of (first_told m f)) f None ≡ price_reply m e w p
 findings_answer m e w p f low is = grind (arith, tell-first)
 
 pub findings_explain : (m : Mode) (e : Instance) (w : List Bool) (p : Prices) (f : Findings) → 1 ≤ p.denominator
     → f ≡ findings e w p
-    → with_table
-    (price_table m e f ++ groups_told (verdict_of (first_told m f)) (group_lines e w (on_groups m.exhaustive f.budgets f.limit)))
-    (verdict_reply m e w (verdict_of (first_told m f)) f) ≡ explained_prices m e w p
+    → explained_verdict m e w (verdict_of (first_told m f)) f (on_groups m.exhaustive f.budgets f.limit)
+    (nearest_on_yes (verdict_of (first_told m f)) (on_groups m.exhaustive f.budgets f.limit) e w) ≡ explained_prices m e w p
 findings_explain m e w p f low is = grind (arith, tell-first)

@@ -6,11 +6,11 @@ use Rattle.std.proofs.lemmas.List.Elements.{All-from_recursion, recursion_from_A
 use Rattle.pb_election.specs.Instance.{Instance, IsProject}
 use Rattle.pb_certificate.specs.declared.violations.measure.Measure.{Measure}
 use Rattle.pb_reply.specs.Inputs.{Stated, StatesElection}
-use Rattle.pb_reply.specs.Inside.Taking.{Gives, GivesOutcome, IfTaken, stopped}
+use Rattle.pb_reply.specs.Inside.Taking.{Gives, GivesOutcome, IfTaken, reply_why}
 use Rattle.pb_reply.specs.Replies.{Reply, with_input}
 use Rattle.pb_reply.specs.Turns.{FileTurn, Turn}
-use Rattle.pb_reply.specs.declared.stop.Stop.{Stop}
-use Rattle.pb_reply.specs.declared.stop.Stop.TheVariants as stop
+use Rattle.pb_reply.specs.declared.unanswered.Unanswered.{Unanswered}
+use Rattle.pb_reply.specs.declared.unanswered.Unanswered.TheVariants as unanswered
 use Rattle.pb_cohesion.specs.Closest.{AreAllFigures, wanted}
 use Rattle.pb_cohesion.specs.Shown.{AreSmall, first_short, shown, verdict_by}
 use Rattle.pb_cohesion.specs.declared.GroupFigures.{GroupFigures}
@@ -24,10 +24,10 @@ use Rattle.pb_audit.specs.Figured.{AreFigured, FigureRules, FiguresPromise, IsFi
 use Rattle.pb_audit.specs.Groups.{groups_rules}
 
 -- where the election is refused, the outcome file is left alone
-pub figured_ended_at_election : (rules : FigureRules) (election : Turn) (outcome : FileTurn) (why : Stop)
+pub figured_ended_at_election : (rules : FigureRules) (election : Turn) (outcome : FileTurn) (why : Unanswered)
     → IfTaken {A = Instance} (Err why) (Gives StatesElection election) → outcome None
-    → IfSome (stopped why) (ReadsFigured rules election outcome)
-figured_ended_at_election rules election outcome (stop.Refused r) given left = record {
+    → IfSome (reply_why why) (ReadsFigured rules election outcome)
+figured_ended_at_election rules election outcome (unanswered.Refused r) given left = record {
   of_election = given.delivery;
   of_outcome = None;
   answers = record {
@@ -42,12 +42,12 @@ figured_ended_at_election rules election outcome (stop.Refused r) given left = r
   election_delivered = given.delivered;
   outcome_delivered = left;
 }
-figured_ended_at_election rules election outcome stop.Memory given left = tt
+figured_ended_at_election rules election outcome unanswered.Memory given left = tt
 
-pub figured_ended_at_outcome : (rules : FigureRules) (election : Turn) (outcome : FileTurn) (e : Instance) (why : Stop)
+pub figured_ended_at_outcome : (rules : FigureRules) (election : Turn) (outcome : FileTurn) (e : Instance) (why : Unanswered)
     → Gives StatesElection election (Ok e) → IfTaken {A = List Bool} (Err why) (GivesOutcome e outcome)
-    → IfSome (stopped why) (ReadsFigured rules election outcome)
-figured_ended_at_outcome rules election outcome e (stop.Refused r) given taken = record {
+    → IfSome (reply_why why) (ReadsFigured rules election outcome)
+figured_ended_at_outcome rules election outcome e (unanswered.Refused r) given taken = record {
   of_election = given.delivery;
   of_outcome = taken.delivery;
   answers = record {
@@ -62,7 +62,7 @@ figured_ended_at_outcome rules election outcome e (stop.Refused r) given taken =
   election_delivered = given.delivered;
   outcome_delivered = taken.delivered;
 }
-figured_ended_at_outcome rules election outcome e stop.Memory given taken = tt
+figured_ended_at_outcome rules election outcome e unanswered.Memory given taken = tt
 
 -- the reply by the figures of all projects keeps what its status promises
 pub groups_promise : (m : Measure) → FiguresPromise (groups_rules m)

@@ -156,7 +156,7 @@ on-outcome : (m : Mode) (stable : Bool) (e : Instance) (w : List Bool) (c : Stat
     → IfOk c (λ a. PricesPromise m p.status e w a) → p.status ≡ Yes → r.status ≡ Yes → Leaves m stable r
 on-outcome m stable e w (Ok a) (Ok b) p r is_p is_r of_p yes_p yes_r =
     by-verdict m stable b.cover e r (refutation_verdict stable e w b)
-    (said-of m stable e w b (of_p.unrefuted_yes yes_p) (of_p.unrefuted_stable_yes yes_p))
+    (said-of m stable e w b (of_p.yes yes_p).unrefuted (of_p.yes yes_p).unrefuted_stable)
     (ap (λ (q : Reply). q.lines) is_r) (ap (λ (q : Reply). q.status) is_r) yes_r
 on-outcome m stable e w (Err x) d p r is_p is_r of_p yes_p yes_r = no-refusal p x is_p yes_p
 on-outcome m stable e w (Ok a) (Err x) p r is_p is_r of_p yes_p yes_r = no-refusal r x is_r yes_r

@@ -5,7 +5,7 @@ use Rattle.pb_price.specs.declared.Mode.{Mode}
 use Rattle.pb_audit.specs.Answers.{AnswersPrices, AnswersViolation}
 use Rattle.pb_reply.specs.Replies.{Reply}
 use Rattle.pb_audit.specs.OneAnswer.{JustOne}
-use Rattle.pb_audit.specs.Reports.{Files, Finds, FindsCertificate, FindsEach, Found, ReportOf, report_on, where_accepted}
+use Rattle.pb_audit.specs.Reports.{EntryFiles, Finds, FindsCertificate, FindsEach, Found, ReportOf, report_on, where_accepted}
 use Rattle.pb_audit.proofs.OneAnswer.{price-reply-one, read-one, violation-reply-one}
 
 -- what is found of a certificate
@@ -25,7 +25,7 @@ certificate-same answers one (Some d) (Some r) None h k = absurd k
 certificate-same answers one (Some d) (Some r) (Some s) h k = ap Some ((one d).no_other r s h k)
 
 -- what is found of the files of one name
-finds-some : (m : Mode) (files : Files) → (found : Found) × Finds m files found
+finds-some : (m : Mode) (files : EntryFiles) → (found : Found) × Finds m files found
 finds-some m files =
     let read = (read-one files.election).one in
     let prices =
@@ -38,7 +38,7 @@ finds-some m files =
       record { name = refl; read = read.1; prices = prices.1; violation = violation.1 },
     )
 
-finds-same : (m : Mode) (files : Files) (f g : Found) → Finds m files f → Finds m files g → f ≡ g
+finds-same : (m : Mode) (files : EntryFiles) (f g : Found) → Finds m files f → Finds m files g → f ≡ g
 finds-same m files f g h k =
     let read : g.read ≡ f.read = (read-one files.election).no_other g.read f.read k.read h.read in
     let prices =
@@ -59,14 +59,14 @@ finds-same m files f g h k =
     λ i. record { name = names i; read = sym read i; prices = same_prices i; violation = same_violation i }
 
 -- and of all files
-each-some : (m : Mode) (entries : List Files) → (found : List Found) × FindsEach m entries found
+each-some : (m : Mode) (entries : List EntryFiles) → (found : List Found) × FindsEach m entries found
 each-some m [] = ([], tt)
 each-some m (files ∷ rest) =
     let first = finds-some m files in
     let more = each-some m rest in
     (first.0 ∷ more.0, (first.1, more.1))
 
-each-same : (m : Mode) (entries : List Files) (f g : List Found) → FindsEach m entries f → FindsEach m entries g → f ≡ g
+each-same : (m : Mode) (entries : List EntryFiles) (f g : List Found) → FindsEach m entries f → FindsEach m entries g → f ≡ g
 each-same m [] [] [] h k = refl
 each-same m [] [] (y ∷ ys) h k = absurd k
 each-same m [] (x ∷ xs) g h k = absurd h
@@ -77,7 +77,7 @@ each-same m (files ∷ rest) (x ∷ xs) (y ∷ ys) h k =
     let more = each-same m rest xs ys h.1 k.1 in
     λ i. first i ∷ more i
 
-pub report-one : (as_json : Bool) (m : Mode) (entries : List Files) → JustOne (ReportOf as_json m entries)
+pub report-one : (as_json : Bool) (m : Mode) (entries : List EntryFiles) → JustOne (ReportOf as_json m entries)
 report-one as_json m entries = record {
   one = let found = each-some m entries in (report_on as_json found.0, record { found = found.0; each = found.1; out = refl });
   no_other = λ r s a b. a.out ∙ ap (report_on as_json) (each-same m entries a.found b.found a.each b.each) ∙ sym b.out;

@@ -68,22 +68,22 @@ states-one input is_text is_refused k d =
 -- Elections.
 
 election_refusal : ElectionFault → ℕ → InputRefusal
-election_refusal f place = refusal_of name.Election (fault.Election (record { fault = f; place = place }))
+election_refusal f record_number = refusal_of name.Election (fault.Election (record { fault = f; record_number = record_number }))
 
 election-decides : Decides IsTextOf IsRefusedElection
 unfolding election_refusal
 election-decides = record {
   answered = λ bytes. elim (election_reading.answered (election_records bytes)) [
     | inl text ↦ inl text
-    | inr why ↦ inr (election_refusal why.1 why.0, (record { fault = why.1; place = why.0 }, why.2, refl))
+    | inr why ↦ inr (election_refusal why.1 why.0, (record { fault = why.1; record_number = why.0 }, why.2, refl))
   ];
-  apart = λ bytes e r text refused. election_laws.apart (election_records bytes) e refused.0.place refused.0.fault text
+  apart = λ bytes e r text refused. election_laws.apart (election_records bytes) e refused.0.record_number refused.0.fault text
       refused.1;
   alone = λ bytes e d t u. one-election (election_records bytes) e d t u;
   first = λ bytes r s h k. (
       let same =
-      one-first elections.election_form (election_records bytes) h.0.place k.0.place h.0.fault k.0.fault h.1 k.1 in
-      h.2 ∙ ap (λ f. election_refusal f h.0.place) same.1 ∙ ap (election_refusal k.0.fault) same.0 ∙ sym k.2
+      one-first elections.election_form (election_records bytes) h.0.record_number k.0.record_number h.0.fault k.0.fault h.1 k.1 in
+      h.2 ∙ ap (λ f. election_refusal f h.0.record_number) same.1 ∙ ap (election_refusal k.0.fault) same.0 ∙ sym k.2
       );
 }
 
@@ -93,21 +93,21 @@ election-one = states-one name.Election IsTextOf IsRefusedElection election-deci
 -- Files beside an election.
 
 file_refusal : InputName → CertFault → ℕ → InputRefusal
-file_refusal input f place = refusal_of input (fault.Certificate (record { fault = f; place = place }))
+file_refusal input f record_number = refusal_of input (fault.Certificate (record { fault = f; record_number = record_number }))
 
 -- where a first fault stands, the file is refused for it
 file-refused : (input : InputName) (form : Form CertFault) (bytes : List ℕ) → HasFirst form (certificate_records bytes)
     → (r : InputRefusal) × IsRefusedFile input form bytes r
 unfolding file_refusal
 file-refused input form bytes why =
-    (file_refusal input why.1 why.0, (record { fault = why.1; place = why.0 }, why.2, refl))
+    (file_refusal input why.1 why.0, (record { fault = why.1; record_number = why.0 }, why.2, refl))
 
 refusals-same : (input : InputName) (form : Form CertFault) (bytes : List ℕ) (r s : InputRefusal)
     → IsRefusedFile input form bytes r → IsRefusedFile input form bytes s → r ≡ s
 unfolding file_refusal
 refusals-same input form bytes r s h k =
-    let same = one-first form (certificate_records bytes) h.0.place k.0.place h.0.fault k.0.fault h.1 k.1 in
-    h.2 ∙ ap (λ f. file_refusal input f h.0.place) same.1 ∙ ap (file_refusal input k.0.fault) same.0 ∙ sym k.2
+    let same = one-first form (certificate_records bytes) h.0.record_number k.0.record_number h.0.fault k.0.fault h.1 k.1 in
+    h.2 ∙ ap (λ f. file_refusal input f h.0.record_number) same.1 ∙ ap (file_refusal input k.0.fault) same.0 ∙ sym k.2
 
 pub prices-one : (input : InputName) (e : Instance) (d : Delivery) → JustOne (StatesPrices input e d)
 prices-one input e =
@@ -115,7 +115,7 @@ prices-one input e =
     (record {
       answered = λ bytes. elim (price-answered (certificate_records bytes) e)
           [ inl text ↦ inl text | inr why ↦ inr (file-refused input (price_form e) bytes why) ];
-      apart = λ bytes p r text refused. price-clear (certificate_records bytes) e p text refused.0.place refused.0.fault
+      apart = λ bytes p r text refused. price-clear (certificate_records bytes) e p text refused.0.record_number refused.0.fault
           refused.1;
       alone = λ bytes p q t u. price-text-same (certificate_records bytes) e p q t u;
       first = refusals-same input (price_form e);
@@ -134,7 +134,7 @@ violation-one input e =
         | inr why ↦ inr
             (file-refused input (violation_form e) bytes why)
       ];
-      apart = λ bytes v r text refused. group-clear (certificate_records bytes) e v.0 v.1 v.2 text refused.0.place
+      apart = λ bytes v r text refused. group-clear (certificate_records bytes) e v.0 v.1 v.2 text refused.0.record_number
           refused.0.fault refused.1;
       alone = λ bytes v w t u. claims-same v w
           (group-text-same (certificate_records bytes) e v.0 w.0 v.1 v.2 w.1 w.2 t u);
@@ -149,7 +149,7 @@ refutation-one e =
         | inl text ↦ inl text
         | inr why ↦ inr (file-refused name.Certificate (refutation_form e) bytes why)
       ];
-      apart = λ bytes r f text refused. refutation-clear (certificate_records bytes) e r text refused.0.place
+      apart = λ bytes r f text refused. refutation-clear (certificate_records bytes) e r text refused.0.record_number
           refused.0.fault refused.1;
       alone = λ bytes r s t u. refutation-text-same (certificate_records bytes) e r s t u;
       first = refusals-same name.Certificate (refutation_form e);
@@ -160,7 +160,7 @@ outcome-one e = states-one name.Outcome (λ bytes marks. IsOutcomeText (certific
     (IsRefusedFile name.Outcome (outcome_form e)) (record {
       answered = λ bytes. elim (outcome-answered (certificate_records bytes) e)
           [ inl text ↦ inl text | inr why ↦ inr (file-refused name.Outcome (outcome_form e) bytes why) ];
-      apart = λ bytes w r text refused. outcome-clear (certificate_records bytes) e w text refused.0.place
+      apart = λ bytes w r text refused. outcome-clear (certificate_records bytes) e w text refused.0.record_number
           refused.0.fault refused.1;
       alone = λ bytes w v t u. outcome-text-same (certificate_records bytes) e w v t u;
       first = refusals-same name.Outcome (outcome_form e);

@@ -1,5 +1,5 @@
 -- What each command answers: lines or a text, and how it ends, from what its inputs state.
-use Rattle.std.specs.Prelude.{◌≡◌, Bool, ℕ, List, [], ◌∷◌, IfOk, Option, Ok, Err}
+use Rattle.std.specs.Prelude.{◌≡◌, Bool, ℕ, List, [], ◌∷◌, IfOk, Option, None, Ok, Err}
 use Rattle.pb_election.specs.Instance.{Instance}
 use Rattle.pb_records.specs.Loading.{Delivery}
 use Rattle.pb_certificate.specs.Prices.Canon.{Canon}
@@ -20,6 +20,7 @@ use Rattle.pb_price.specs.First.{First, verdict_of}
 use Rattle.pb_price.specs.declared.Findings.{Findings}
 use Rattle.pb_price.specs.declared.Mode.{Mode}
 use Rattle.pb_price.specs.declared.Verdict.{Verdict}
+use Rattle.pb_price.specs.declared.nearest.NearestGroup.{NearestGroup}
 use Rattle.pb_reply.specs.Replies.{Answer, Reply, answer_of, price_status, refused, refutation_status, violation_status, with_input}
 use Rattle.pb_reply.specs.Inputs.{FilesState, Stated, StatesElection, StatesPrices, StatesRefutation, StatesViolation, audited}
 use Rattle.pb_reply.specs.Lines.{notes, price_line, read_line, refutation_line, violation_line}
@@ -46,16 +47,17 @@ pub record AuditRules (A : Type 0) : Type 1 where
   pub reply : Instance → List Bool → A → Reply
   pub promises : Status → Instance → List Bool → A → Type 0
 
--- what is found of prices: the verdict, and for programs also what each condition comes to
-abbrev pub verdict_reply : Mode → Instance → List Bool → Verdict → Findings → Reply
-verdict_reply m e w v f = record {
+-- what is found of prices: the verdict, and for programs also what each condition comes to, and the group that comes
+-- nearest to what a yes says of groups, where it is looked for
+abbrev pub verdict_reply : Mode → Instance → List Bool → Verdict → Findings → Option NearestGroup → Reply
+verdict_reply m e w v f nearest = record {
   lines = price_line m.stable e v ∷ [];
-  json = price_text m e w v f;
+  json = price_text m e w v f nearest;
   status = price_status v;
 }
 
 abbrev pub price_reply : Mode → Instance → List Bool → Prices → Reply
-price_reply m e w p = verdict_reply m e w (verdict_of (First m e w p)) (findings e w p)
+price_reply m e w p = verdict_reply m e w (verdict_of (First m e w p)) (findings e w p) None
 
 abbrev pub price_rules : Mode → AuditRules Prices
 price_rules m = record { states = StatesPrices name.Certificate; reply = price_reply m; promises = PricesPromise m }

@@ -43,9 +43,9 @@ is_yes Yes = true
 is_yes other = false
 
 abbrev pub joined : (Bool → Text) → Reply → Reply → Reply
-joined object first second = record {
+joined of_both first second = record {
   lines = first.lines ++ second.lines;
-  json = object (is_yes (yes_where_both first.status second.status));
+  json = of_both (is_yes (yes_where_both first.status second.status));
   status = yes_where_both first.status second.status;
 }
 
@@ -59,7 +59,7 @@ both_on m e w p claim =
 abbrev pub beside : Mode → Findings → Instance → List Bool → GroupAndDemand → Reply
 beside m f e w claim =
     joined (both_text m e w (verdict_of (first_told m f)) f claim)
-    (verdict_reply m e w (verdict_of (first_told m f)) f) (violation_reply e w claim)
+    (verdict_reply m e w (verdict_of (first_told m f)) f None) (violation_reply e w claim)
 
 -- The status is yes exactly where the prices support the outcome and the group and its demand are a violation. Each
 -- line promises what it promises alone. What is more, where the stable form is asked for, prices that support the

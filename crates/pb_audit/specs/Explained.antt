@@ -1,5 +1,5 @@
 -- What `explain` answers: the line of the verdict, an empty line, and a table of what each condition or test comes to.
-use Rattle.std.specs.Prelude.{◌≡◌, Bool, ℕ, List, [], ◌∷◌, ◌++◌, Option}
+use Rattle.std.specs.Prelude.{◌≡◌, Bool, ℕ, List, [], ◌∷◌, ◌++◌, Option, None}
 use Rattle.pb_records.specs.Loading.{Delivery}
 use Rattle.pb_election.specs.Instance.{Instance}
 use Rattle.pb_certificate.specs.Prices.{Prices}
@@ -10,18 +10,21 @@ use Rattle.pb_cohesion.specs.RefutationFindings.{refutation_findings}
 use Rattle.pb_cohesion.specs.Satisfactions.{worth_by}
 use Rattle.pb_cohesion.specs.ViolationFindings.{violation_findings}
 use Rattle.pb_price.specs.Findings.{findings}
+use Rattle.pb_price.specs.NearestGroup.{nearest_to}
+use Rattle.pb_price.specs.declared.Findings.{Findings}
 use Rattle.pb_price.specs.declared.Mode.{Mode}
 use Rattle.pb_price.specs.First.{First, verdict_of}
 use Rattle.pb_price.specs.OnGroups.{groups_by}
 use Rattle.pb_price.specs.declared.OnGroups.{OnGroups}
 use Rattle.pb_price.specs.declared.Verdict.{Verdict}
+use Rattle.pb_price.specs.declared.nearest.NearestGroup.{NearestGroup}
 use Rattle.pb_price.specs.declared.Verdict.TheVariants.{Supported, Failed}
 use Rattle.pb_explain.specs.GroupLines.{below_reach, claim, group_lines, within_reach}
 use Rattle.pb_explain.specs.PriceTable.{price_table}
 use Rattle.pb_explain.specs.RefutationTable.{refutation_table}
 use Rattle.pb_explain.specs.ViolationTable.{violation_table}
 use Rattle.pb_records.specs.Records.{Text}
-use Rattle.pb_audit.specs.Answers.{AnswersAudit, AuditRules, price_reply, refutation_reply, violation_reply}
+use Rattle.pb_audit.specs.Answers.{AnswersAudit, AuditRules, refutation_reply, verdict_reply, violation_reply}
 use Rattle.pb_reply.specs.Replies.{Reply}
 use Rattle.pb_reply.specs.Certificates.{Certificate, OfPrices, OfRefutation, OfViolation, StatesCertificate}
 use Rattle.pb_reply.specs.Promises.{PricesPromise, RefutationPromises, ViolationPromises}
@@ -39,13 +42,20 @@ abbrev pub groups_told : Verdict → List Text → List Text
 groups_told Supported lines = [] ∷ lines
 groups_told (Failed f) lines = []
 
+abbrev pub nearest_on_yes : Verdict → OnGroups → Instance → List Bool → Option NearestGroup
+nearest_on_yes Supported said e w = nearest_to said e w
+nearest_on_yes (Failed f) said e w = None
+
+-- a verdict on prices with the table of what is found of them, and which group comes nearest to what a yes says
+abbrev pub explained_verdict : Mode → Instance → List Bool → Verdict → Findings → OnGroups → Option NearestGroup → Reply
+explained_verdict m e w v f said nearest =
+    with_table (price_table m e f ++ groups_told v (group_lines e said nearest)) (verdict_reply m e w v f nearest)
+
 -- the verdict on prices, a violation or a refutation, with the table of what is found of it
 abbrev pub explained_prices : Mode → Instance → List Bool → Prices → Reply
 explained_prices m e w p =
-    with_table
-    (price_table m e (findings e w p)
-    ++ groups_told (verdict_of (First m e w p)) (group_lines e w (groups_by m e p)))
-    (price_reply m e w p)
+    explained_verdict m e w (verdict_of (First m e w p)) (findings e w p) (groups_by m e p)
+    (nearest_on_yes (verdict_of (First m e w p)) (groups_by m e p) e w)
 
 abbrev pub explained_violation : Instance → List Bool → Measure × List ℕ × List ℕ → Reply
 explained_violation e w v =

@@ -1,5 +1,5 @@
 -- The JSON object of a reply, as a text. Proofs open one where it is made, and nowhere else.
-use Rattle.std.specs.Prelude.{Bool, List, ℕ}
+use Rattle.std.specs.Prelude.{Bool, List, Option, None, ℕ}
 use Rattle.pb_election.specs.Instance.{Instance}
 use Rattle.pb_certificate.specs.declared.violations.measure.Measure.{Measure}
 use Rattle.pb_cohesion.specs.FirstV.{FirstV, violation_verdict_of}
@@ -19,6 +19,7 @@ use Rattle.pb_json.specs.Violations.{violation_json}
 use Rattle.pb_price.specs.declared.Findings.{Findings}
 use Rattle.pb_price.specs.declared.Mode.{Mode}
 use Rattle.pb_price.specs.declared.Verdict.{Verdict}
+use Rattle.pb_price.specs.declared.nearest.NearestGroup.{NearestGroup}
 use Rattle.serde_json.specs.Written.{compact_text}
 use Rattle.pb_records.specs.Records.{Text}
 
@@ -27,8 +28,8 @@ unfoldable pub read_text : Instance → Text
 read_text e = compact_text (read_json e)
 
 -- on prices, on a group and its demand, and on weights: the verdict, and what each condition or test comes to
-unfoldable pub price_text : Mode → Instance → List Bool → Verdict → Findings → Text
-price_text m e w v f = compact_text (prices_json m e w v f)
+unfoldable pub price_text : Mode → Instance → List Bool → Verdict → Findings → Option NearestGroup → Text
+price_text m e w v f nearest = compact_text (prices_json m e w v f nearest)
 
 unfoldable pub violation_text : Measure → Instance → List Bool → ViolationVerdict → ViolationFindings → Text
 violation_text k e w v f = compact_text (violation_json k e w v f)
@@ -43,6 +44,6 @@ groups_text m e w xs = compact_text (groups_json m e w xs)
 -- on prices and on a group and its demand, and whether both are a yes
 unfoldable pub both_text : Mode → Instance → List Bool → Verdict → Findings → Measure × List ℕ × List ℕ → Bool → Text
 both_text m e w v f claim all =
-    compact_text (both_json all (prices_json m e w v f)
+    compact_text (both_json all (prices_json m e w v f None)
     (violation_json claim.0 e w (violation_verdict_of (FirstV (worth_by claim.0 e) e w claim.1 claim.2))
     (violation_findings (worth_by claim.0 e) e w claim.1 claim.2)))

@@ -38,3 +38,10 @@ Answers format question.Margins election outcome certificate violation a =
     ReadsMargins election outcome certificate a × violation None
 Answers format question.Tidy election outcome certificate violation a =
     ReadsTidy election certificate a × outcome None × violation None
+
+-- the questions on which a JSON object is answered: all but those that are answered by a file of its own form
+abbrev pub HasObject : Question → Type 0
+HasObject (question.GroupMargins k) = ⊥
+HasObject question.Margins = ⊥
+HasObject question.Tidy = ⊥
+HasObject _ = Unit {0}

@@ -5,6 +5,9 @@ use Rattle.serde_json.specs.Written.{compact_text}
 use Rattle.pb_records.specs.Loading.{Delivery}
 use Rattle.pb_price.specs.declared.Mode.{Mode}
 use Rattle.pb_records.specs.Records.{Text}
+use Rattle.pb_json.specs.Folders.{total_json}
+use Rattle.pb_json.specs.Members.{count}
+use Rattle.pb_json.specs.Texts.{IsJson}
 use Rattle.pb_reply.specs.Replies.{Answer, Reply, text_of}
 use Rattle.pb_audit.specs.Answers.{AnswersElection, AnswersPrices, AnswersViolation}
 use Rattle.pb_audit.specs.declared.total.Ending.{Ending}
@@ -15,7 +18,7 @@ use Rattle.pb_reply.specs.declared.status.Status.{Status}
 use Rattle.pb_reply.specs.declared.status.Status.TheVariants.{Yes, No, Refused}
 
 -- the files of one name, as they are delivered: an election, and its certificates where they are there
-pub record Files : Type 0 where
+pub record EntryFiles : Type 0 where
   pub name : Text
   pub election : Delivery
   pub prices : Option Delivery
@@ -41,7 +44,7 @@ FindsCertificate answers (Some certificate) (Some r) = answers certificate r
 FindsCertificate answers _ _ = ⊥
 
 -- The outcome of a folder's election is its own: no outcome file is given.
-pub record Finds (m : Mode) (files : Files) (found : Found) : Type 0 where
+pub record Finds (m : Mode) (files : EntryFiles) (found : Found) : Type 0 where
   pub name : found.name ≡ files.name
   pub read : AnswersElection files.election found.read
   pub prices : FindsCertificate (AnswersPrices m files.election None) (where_accepted found.read.status files.prices)
@@ -50,7 +53,7 @@ pub record Finds (m : Mode) (files : Files) (found : Found) : Type 0 where
       (where_accepted found.read.status files.violation) found.violation
 
 -- the same of each entry of a folder
-abbrev pub FindsEach : Mode → List Files → List Found → Type 0
+abbrev pub FindsEach : Mode → List EntryFiles → List Found → Type 0
 FindsEach m [] [] = Unit {0}
 FindsEach m (files ∷ rest) (found ∷ more) = Finds m files found × FindsEach m rest more
 FindsEach m _ _ = ⊥
@@ -68,17 +71,28 @@ abbrev pub object_of : Option Reply → Text
 object_of None = codes "null"
 object_of (Some r) = r.json
 
-abbrev pub entry_of : Text → Text → Text → Text → Text
-entry_of election name prices violation =
-    codes "{\"election\":" ++ election
-    ++ codes ",\"kind\":\"entry\",\"name\":" ++ name
-    ++ codes ",\"prices\":" ++ prices
-    ++ codes ",\"version\":1,\"violation\":" ++ violation
-    ++ codes "}"
+-- the text of an object by its members, each a key and the text of a value
+abbrev pub members_told : Bool → List (Text × Text) → Text
+members_told later [] = codes "}"
+members_told later (m ∷ ms) =
+    (if later then codes "," else []) ++ (compact_text (string m.0) ++ (codes ":" ++ (m.1 ++ members_told true ms)))
+
+abbrev pub object_told : List (Text × Text) → Text
+object_told ms = codes "{" ++ members_told false ms
+
+abbrev pub entry_told : Text → Text → Text → Text → Text
+entry_told name election prices violation = object_told (
+    (codes "election", election)
+    ∷ (codes "kind", compact_text (string (codes "entry")))
+    ∷ (codes "name", compact_text (string name))
+    ∷ (codes "prices", prices)
+    ∷ (codes "version", compact_text (count 1))
+    ∷ (codes "violation", violation)
+    ∷ [])
 
 abbrev pub entry_object : Found → Text
 entry_object found =
-    entry_of found.read.json (compact_text (string found.name)) (object_of found.prices) (object_of found.violation)
+    entry_told found.name found.read.json (object_of found.prices) (object_of found.violation)
 
 -- the lines on an entry, or its object
 abbrev pub lines_of : Bool → Found → List Text
@@ -138,9 +152,7 @@ total_of lines = record {
 }
 
 abbrev pub total_line : Bool → Total → Text
-total_line true t =
-    codes "{\"elections\":" ++ decimal t.elections ++ codes ",\"kind\":\"total\",\"no\":" ++ decimal t.no
-    ++ codes ",\"refused\":" ++ decimal t.refused ++ codes ",\"version\":1,\"yes\":" ++ decimal t.yes ++ codes "}"
+total_line true t = compact_text (total_json t.elections t.yes t.no t.refused)
 total_line false t =
     codes "total " ++ decimal t.elections ++ codes " elections "
     ++ decimal t.yes ++ codes " yes "
@@ -159,21 +171,33 @@ report_on as_json found = record {
 }
 
 -- the report on the entries of a folder
-pub record ReportOf (as_json : Bool) (m : Mode) (entries : List Files) (report : Answer FolderStatus) : Type 0 where
+pub record ReportOf (as_json : Bool) (m : Mode) (entries : List EntryFiles) (report : Answer FolderStatus) : Type 0 where
   pub found : List Found
   pub each : FindsEach m entries found
   pub out : report ≡ report_on as_json found
 
--- a report that is not finished: how it is written, its mode, its text so far, and how the files of that text end
+-- A report that is not finished: how it is written, its mode, its text so far but for what is written out, and how the
+-- files of that text end.
 pub record Progress : Type 0 where
   pub as_json : Bool
   pub mode : Mode
   pub text : Text
   pub endings : List Ending
 
--- its text so far is that of these entries
-pub record HasTaken (p : Progress) (entries : List Files) : Type 0 where
+-- a line more, which is one value in JSON
+pub record AddsJsonLine (old new : Text) : Type 0 where
+  pub line : Text
+  pub json : IsJson line
+  pub added : new ≡ old ++ text_of (line ∷ [])
+
+-- what is written out of its text, and the rest of it, are the text of these entries
+pub record HasTaken (p : Progress) (entries : List EntryFiles) (written : Text) : Type 0 where
   pub found : List Found
   pub each : FindsEach p.mode entries found
-  pub text : p.text ≡ text_of (flat_map (lines_of p.as_json) found)
+  pub text : written ++ p.text ≡ text_of (flat_map (lines_of p.as_json) found)
   pub endings : p.endings ≡ flat_map endings_of found
+
+-- with the rest of the text, and what was written out before, this is the report on the entries
+abbrev pub IsRestOf : Progress → List EntryFiles → Text → Answer FolderStatus → Type 0
+IsRestOf p entries written rest =
+    ReportOf p.as_json p.mode entries (record { text = written ++ rest.text; status = rest.status })

@@ -1,7 +1,9 @@
 //! The one answer to a question.
-ghost use Rattle.std.specs.Prelude.{IfOk};
+ghost use Rattle.std.specs.Prelude.{◌≡◌, IfOk};
+ghost use Rattle.pb_reply.specs.Replies.{AreJsonLines};
 ghost use Rattle.pb_reply.specs.Turns.{file_turn, turn};
-ghost use Rattle.pb_audit.specs.Questions.{Answers};
+ghost use Rattle.pb_reply.specs.declared.answer.Format.TheVariants.{Json};
+ghost use Rattle.pb_audit.specs.Questions.{Answers, HasObject};
 
 use crate::auditing::{answer_as_by, answer_by};
 use crate::both::both;
@@ -38,7 +40,10 @@ pub fn answer<E: Given, O: Given, C: Given, V: Given>(
     // The answer is the one on these inputs. Where none is refused, its status promises what the definition of the
     // question says: of prices, that it is yes exactly where they support the outcome, and what this says of every
     // group; of a group and its demand, that it is yes exactly where they are a violation; and so on.
-    ensures { IfOk result (Answers format question (turn E.delivers election.old election.new) (file_turn O.delivers outcome.old outcome.new) (turn C.delivers certificate.old certificate.new) (turn V.delivers violation.old violation.new)) }
+    ensures answers { IfOk result (Answers format question (turn E.delivers election.old election.new) (file_turn O.delivers outcome.old outcome.new) (turn C.delivers certificate.old certificate.new) (turn V.delivers violation.old violation.new)) }
+    // As JSON the answer is one line, which is one value, whatever is in the inputs. The tables of margins and the
+    // canonical text are files of their own form.
+    ensures json { format ≡ Json → HasObject question → IfOk result (λ answer. AreJsonLines answer.text) }
 {
     match question {
         Question::Read => read(alloc, format, election, notes),

@@ -1,27 +1,27 @@
 //! Auditing an election, an outcome and a certificate, whatever kind of certificate it is.
-ghost use Rattle.std.specs.Prelude.{IfOk, Ok, option_map};
+ghost use Rattle.std.specs.Prelude.{◌≡◌, IfOk, Ok, option_map};
 ghost use Rattle.pb_audit.specs.Answers.{AnswersAudit, AuditRules};
 ghost use Rattle.pb_reply.specs.Inputs.{StatesElection};
 ghost use Rattle.pb_reply.specs.Inside.Loaded.{lent};
 ghost use Rattle.pb_audit.specs.Inside.Certificates.{AnswersCertificate, IfTold, Promised};
 ghost use Rattle.pb_audit.specs.InTurn.{ReadsAudit};
-ghost use Rattle.pb_reply.specs.Replies.{TellsReply};
-ghost use Rattle.pb_reply.specs.declared.answer.Format.TheVariants.{Lines};
+ghost use Rattle.pb_reply.specs.Replies.{AreJsonLines, TellsReply};
+ghost use Rattle.pb_reply.specs.declared.answer.Format.TheVariants.{Json, Lines};
 ghost use Rattle.pb_reply.specs.Turns.{file_turn, turn};
 ghost use Rattle.pb_election.specs.Outcome.{OutcomeFits};
 ghost use Rattle.pb_records.specs.Loading.{Delivery};
 
 use pb_election::{Election, Outcome};
 use pb_reply::{
-    Answer, File, Format, Given, Lend, Reply, Status, Stop, Telling, outcome_of, push_notes,
-    settled, take_election, take_outcome,
+    Answer, AsFile, File, Format, FromReply, Given, Reply, Status, Unanswered, or_refusal,
+    outcome_of, push_notes, take_election, take_outcome,
 };
 use std::alloc::{AllocError, Global};
 
 /// How certificates of one kind are audited.
 pub(crate) trait Audit {
     // What is told of the replies.
-    type Told: Telling;
+    type Told: FromReply;
 
     // What a certificate of this kind states, such as prices.
     ghost Subject: { Type 0 };
@@ -37,7 +37,7 @@ pub(crate) trait Audit {
         election: &Election,
         outcome: &Outcome,
         certificate: File<'_>,
-    ) -> Result<Self::Told, Stop>
+    ) -> Result<Self::Told, Unanswered>
         requires { OutcomeFits outcome.now election.now }
         ensures reply { IfTold Self.Told.told (AnswersCertificate (rules self.now).states (rules self.now).reply election.now (outcome.now).marks (lent certificate.entry)) result }
         ensures promised { Promised (rules self.now) };
@@ -49,7 +49,7 @@ pub(crate) trait Audit {
         _notes: &mut Vec<String>,
         _election: &Election,
         _certificate: File<'_>,
-        _told: &Result<Self::Told, Stop>,
+        _told: &Result<Self::Told, Unanswered>,
     ) -> Result<(), AllocError> {
         Ok(())
     }
@@ -66,10 +66,11 @@ pub(crate) fn answer_as_by<A: Audit<Told = Reply>, E: Given, O: Given, C: Given>
     certificate: &mut C,
     notes: &mut Vec<String>,
 ) -> Result<Answer<Status>, AllocError>
-    ensures { IfOk result (TellsReply format (ReadsAudit (A.rules audit.now) (turn E.delivers election.old election.new) (file_turn O.delivers outcome.old outcome.new) (turn C.delivers certificate.old certificate.new))) }
+    ensures told { IfOk result (TellsReply format (ReadsAudit (A.rules audit.now) (turn E.delivers election.old election.new) (file_turn O.delivers outcome.old outcome.new) (turn C.delivers certificate.old certificate.new))) }
+    ensures json { format ≡ Json → IfOk result (λ answer. AreJsonLines answer.text) }
 {
     let work = audit_in_turn(alloc, audit, election, outcome, certificate, notes);
-    let reply = settled(alloc, work)?;
+    let reply = or_refusal(alloc, work)?;
     reply.answer_as(alloc, format)
 }
 
@@ -85,7 +86,7 @@ pub(crate) fn answer_by<A: Audit, E: Given, O: Given, C: Given>(
     ensures { IfOk result (TellsReply Lines (ReadsAudit (A.rules audit.now) (turn E.delivers election.old election.new) (file_turn O.delivers outcome.old outcome.new) (turn C.delivers certificate.old certificate.new))) }
 {
     let work = audit_in_turn(alloc, audit, election, outcome, certificate, notes);
-    let told = settled(alloc, work)?;
+    let told = or_refusal(alloc, work)?;
     told.into_answer(alloc)
 }
 
@@ -97,15 +98,15 @@ fn audit_in_turn<A: Audit, E: Given, O: Given, C: Given>(
     outcome: &mut Option<O>,
     certificate: &mut C,
     notes: &mut Vec<String>,
-) -> Result<A::Told, Stop>
+) -> Result<A::Told, Unanswered>
     ensures { IfTold A.Told.told (ReadsAudit (A.rules audit.now) (turn E.delivers election.old election.new) (file_turn O.delivers outcome.old outcome.new) (turn C.delivers certificate.old certificate.new)) result }
 {
     let election = take_election(alloc, election)?;
     push_notes(alloc, notes, &election)?;
     let outcome = take_outcome(alloc, outcome, &election)?;
     let certificate = certificate.take(alloc)?;
-    let told = audit.reply_on(alloc, &election, &outcome, certificate.lend());
-    audit.push_notes_on(alloc, notes, &election, certificate.lend(), &told)?;
+    let told = audit.reply_on(alloc, &election, &outcome, certificate.as_file());
+    audit.push_notes_on(alloc, notes, &election, certificate.as_file(), &told)?;
     told
 }
 
@@ -116,7 +117,7 @@ pub(crate) fn audit_for<A: Audit>(
     election: &Election,
     outcome: Option<File<'_>>,
     certificate: File<'_>,
-) -> Result<A::Told, Stop>
+) -> Result<A::Told, Unanswered>
     ensures { (file : Delivery) → StatesElection file (Ok election.now) → IfTold A.Told.told (AnswersAudit (A.rules audit.now) file (option_map lent outcome.entry) (lent certificate.entry)) result }
 {
     let outcome = outcome_of(alloc, outcome, election)?;

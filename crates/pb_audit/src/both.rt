@@ -1,28 +1,30 @@
 //! Auditing prices and a violation for one outcome.
-ghost use Rattle.std.specs.Prelude.{◌≡◌, ◌++◌, IfOk, IfSome, string_bytes};
+ghost use Rattle.std.specs.Prelude.{◌≡◌, ◌++◌, IfOk, IfSome};
 ghost use Rattle.pb_audit.specs.Both.{ReadsBoth};
 ghost use Rattle.pb_audit.specs.Both as spec;
 ghost use Rattle.pb_reply.specs.Inputs.{StatesViolation};
 ghost use Rattle.pb_reply.specs.Inside.Loaded.{lent};
 ghost use Rattle.pb_certificate.specs.Violations.{ClaimFits};
 ghost use Rattle.pb_election.specs.Instance.{IsSet, projects};
-ghost use Rattle.pb_reply.specs.Replies.{TellsReply};
+ghost use Rattle.pb_reply.specs.Replies.{AreJsonLines, TellsReply};
 ghost use Rattle.pb_reply.specs.Turns.{file_turn, turn};
 ghost use Rattle.pb_audit.specs.Inside.Certificates.{AnswersCertificate, CanBeTold, FindsPrices};
-ghost use Rattle.pb_reply.specs.Inside.Taking.{Gives, IfTaken, settled};
+ghost use Rattle.pb_reply.specs.Inside.Taking.{Gives, IfTaken, or_refusal};
 ghost use Rattle.pb_election.specs.Outcome.{OutcomeFits};
+ghost use Rattle.pb_reply.specs.declared.answer.Format.TheVariants.{Json};
 
-use crate::objects::both_text;
+use crate::objects::both_object;
 use crate::on_groups::push_note;
 use crate::prices::{price_findings, verdict_reply};
 use crate::violation::group_reply;
 use pb_certificate::Violation;
 use pb_election::{Election, Outcome};
 use pb_input::InputName;
+use pb_json::Object;
 use pb_price::{Findings, Mode, Verdict};
 use pb_reply::{
-    Answer, File, Format, Given, Lend, Reply, Status, Stop, Unmet, settled, take_election,
-    take_outcome, violation_of,
+    Answer, AsFile, File, Format, Given, Reply, Status, Unanswered, Unmet, or_refusal,
+    take_election, take_outcome, violation_of,
 };
 use std::alloc::{AllocError, Global};
 
@@ -38,10 +40,11 @@ pub(crate) fn both<E: Given, O: Given, P: Given, V: Given>(
     violation: &mut V,
     notes: &mut Vec<String>,
 ) -> Result<Answer<Status>, AllocError>
-    ensures { IfOk result (TellsReply format (ReadsBoth mode (turn E.delivers election.old election.new) (file_turn O.delivers outcome.old outcome.new) (turn P.delivers prices.old prices.new) (turn V.delivers violation.old violation.new))) }
+    ensures told { IfOk result (TellsReply format (ReadsBoth mode (turn E.delivers election.old election.new) (file_turn O.delivers outcome.old outcome.new) (turn P.delivers prices.old prices.new) (turn V.delivers violation.old violation.new))) }
+    ensures json { format ≡ Json → IfOk result (λ answer. AreJsonLines answer.text) }
 {
     let work = both_in_turn(alloc, mode, election, outcome, prices, violation, notes);
-    let reply: Reply = settled(alloc, work)?;
+    let reply: Reply = or_refusal(alloc, work)?;
     reply.answer_as(alloc, format)
 }
 
@@ -54,8 +57,8 @@ fn both_in_turn<E: Given, O: Given, P: Given, V: Given>(
     prices: &mut P,
     violation: &mut V,
     notes: &mut Vec<String>,
-) -> Result<Reply, Stop>
-    ensures { IfSome (settled (λ r. r) result) (ReadsBoth mode (turn E.delivers election.old election.new) (file_turn O.delivers outcome.old outcome.new) (turn P.delivers prices.old prices.new) (turn V.delivers violation.old violation.new)) }
+) -> Result<Reply, Unanswered>
+    ensures { IfSome (or_refusal (λ r. r) result) (ReadsBoth mode (turn E.delivers election.old election.new) (file_turn O.delivers outcome.old outcome.new) (turn P.delivers prices.old prices.new) (turn V.delivers violation.old violation.new)) }
 {
     let election = take_election(alloc, election)?;
     let outcome = take_outcome(alloc, outcome, &election)?;
@@ -67,7 +70,7 @@ fn both_in_turn<E: Given, O: Given, P: Given, V: Given>(
         &election,
         &outcome,
         &findings,
-        violation.lend(),
+        violation.as_file(),
         mode,
     );
     push_where_told(notes, on_prices, &reply)?;
@@ -78,7 +81,7 @@ fn both_in_turn<E: Given, O: Given, P: Given, V: Given>(
 fn push_where_told(
     notes: &mut Vec<String>,
     more: Vec<String>,
-    told: &Result<Reply, Stop>,
+    told: &Result<Reply, Unanswered>,
 ) -> Result<(), AllocError> {
     if told.is_ok() {
         for note in more {
@@ -96,14 +99,14 @@ fn take_findings<P: Given>(
     prices: &mut P,
     mode: Mode,
     notes: &mut Vec<String>,
-) -> Result<Findings, Stop>
+) -> Result<Findings, Unanswered>
     requires { OutcomeFits outcome.now election.now }
     ensures taken { IfTaken result (Gives (FindsPrices InputName.Prices election.now (outcome.now).marks) (turn P.delivers prices.old prices.new)) }
     ensures told { IfOk result (CanBeTold election.now) }
 {
     let taken = prices.take(alloc)?;
-    let found = price_findings(alloc, election, outcome, InputName::Prices, taken.lend());
-    push_note_on(alloc, notes, election, taken.lend(), &found, mode)?;
+    let found = price_findings(alloc, election, outcome, InputName::Prices, taken.as_file());
+    push_note_on(alloc, notes, election, taken.as_file(), &found, mode)?;
     found
 }
 
@@ -113,7 +116,7 @@ fn push_note_on(
     notes: &mut Vec<String>,
     election: &Election,
     prices: File<'_>,
-    found: &Result<Findings, Stop>,
+    found: &Result<Findings, Unanswered>,
     mode: Mode,
 ) -> Result<(), AllocError> {
     match found {
@@ -132,10 +135,10 @@ fn beside(
     findings: &Findings,
     violation: File<'_>,
     mode: Mode,
-) -> Result<Reply, Stop>
+) -> Result<Reply, Unanswered>
     requires outcome { OutcomeFits outcome.now election.now }
     requires told { CanBeTold election.now findings.now }
-    ensures { IfSome (settled (λ r. r) result) (AnswersCertificate (StatesViolation InputName.Violation) (spec.beside mode findings.now) election.now (outcome.now).marks (lent violation.entry)) }
+    ensures { IfSome (or_refusal (λ r. r) result) (AnswersCertificate (StatesViolation InputName.Violation) (spec.beside mode findings.now) election.now (outcome.now).marks (lent violation.entry)) }
 {
     let violation = violation_of(alloc, InputName::Violation, violation, election)?;
     Ok(both_reply(alloc, election, outcome, findings, &violation, mode)?)
@@ -156,16 +159,16 @@ fn both_reply(
     requires demand { IsSet 1 (projects election.now) (violation.now).demand }
     ensures { IfOk result (λ reply. reply ≡ spec.beside mode findings.now election.now (outcome.now).marks ((violation.now).measure, (violation.now).group, (violation.now).demand)) }
 {
-    let first = verdict_reply(alloc, election, outcome, findings, mode)?;
+    let first = verdict_reply(alloc, election, outcome, findings, mode, None)?;
     let second = group_reply(alloc, election, outcome, violation)?;
     let all = yes_where_both(first.status, second.status) == Status::Yes;
-    let json = both_text(alloc, mode, election, outcome, findings, violation, all)?;
-    joined(first, second, json)
+    let object = both_object(alloc, mode, election, outcome, findings, violation, all)?;
+    joined(first, second, object)
 }
 
 /// The lines of both, with this object, and yes where both are a yes.
-fn joined(first: Reply, second: Reply, json: String) -> Result<Reply, AllocError>
-    ensures { IfOk result (λ reply. reply ≡ record { lines = first.lines ++ second.lines; json = string_bytes json; status = spec.yes_where_both first.status second.status }) }
+fn joined(first: Reply, second: Reply, object: Object) -> Result<Reply, AllocError>
+    ensures { IfOk result (λ reply. reply ≡ record { lines = first.lines ++ second.lines; json = object; status = spec.yes_where_both first.status second.status }) }
 {
     let mut lines = first.lines;
     for line in second.lines {
@@ -173,7 +176,7 @@ fn joined(first: Reply, second: Reply, json: String) -> Result<Reply, AllocError
     }
     Ok(Reply {
         lines,
-        json,
+        object,
         status: yes_where_both(first.status, second.status),
     })
 }

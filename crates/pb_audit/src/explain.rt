@@ -1,18 +1,17 @@
 //! Explaining verdicts: what each condition on prices, or each test of a violation or of a refutation, comes to.
-ghost use Rattle.std.specs.Prelude.{◌≡◌, IfOk, IfSome, ◌++◌, OnOk, map, string_bytes};
-ghost use Rattle.pb_audit.specs.Answers.{verdict_reply};
-ghost use Rattle.pb_audit.specs.Explained.{explained_prices, explained_refutation, explained_rules, explained_violation, groups_told, with_table};
+ghost use Rattle.std.specs.Prelude.{◌≡◌, ◌<◌, ◌++◌, IfOk, IfSome, OnOk, map, string_bytes};
+ghost use Rattle.pb_audit.specs.Explained.{explained_prices, explained_refutation, explained_rules, explained_violation};
+ghost use Rattle.pb_audit.specs.Explained as spec;
 ghost use Rattle.pb_reply.specs.Certificates.{Certificate};
 ghost use Rattle.pb_reply.specs.Inputs.{StatesPrices, StatesRefutation, StatesViolation};
 ghost use Rattle.pb_reply.specs.Inside.Loaded.{lent};
 ghost use Rattle.pb_audit.specs.Inside.Certificates.{AnswersCertificate, CanBeTold};
-ghost use Rattle.pb_reply.specs.Inside.Taking.{settled};
+ghost use Rattle.pb_reply.specs.Inside.Taking.{or_refusal};
 ghost use Rattle.pb_certificate.specs.Refutations.{WeightsFit};
 ghost use Rattle.pb_certificate.specs.Violations.{ClaimFits};
-ghost use Rattle.pb_election.specs.Instance.{IsSet, projects};
+ghost use Rattle.pb_election.specs.Instance.{IsProject, IsSet, projects, voters};
 ghost use Rattle.pb_election.specs.Outcome.{OutcomeFits};
 ghost use Rattle.pb_explain.specs.GroupLines.{group_lines};
-ghost use Rattle.pb_explain.specs.PriceTable.{price_table};
 ghost use Rattle.pb_price.specs.First.{verdict_of};
 ghost use Rattle.pb_price.specs.OnGroups.{on_groups};
 ghost use Rattle.pb_price.specs.Told.{first_told};
@@ -27,8 +26,8 @@ use pb_cohesion::{refutation_findings, violation_findings};
 use pb_election::{Election, Outcome};
 use pb_explain::{push_group_lines, push_price_table, push_refutation_table, push_violation_table};
 use pb_input::InputName;
-use pb_price::{Findings, Mode, Verdict};
-use pb_reply::{File, Reply, Stop, kind_in, refutation_of, violation_of};
+use pb_price::{Findings, Mode, NearestGroup, Verdict, nearest_to};
+use pb_reply::{File, Reply, Unanswered, kind_in, refutation_of, violation_of};
 use std::alloc::{AllocError, Global};
 
 /// The explanation of a verdict, on prices in a mode.
@@ -51,7 +50,7 @@ impl Audit for ExplainAudit {
         election: &Election,
         outcome: &Outcome,
         certificate: File<'_>,
-    ) -> Result<Reply, Stop> {
+    ) -> Result<Reply, Unanswered> {
         match kind_in(alloc, certificate)? {
             Kind::Prices => prices_on(alloc, election, outcome, certificate, self.mode),
             Kind::Violation => violation_on(alloc, election, outcome, certificate),
@@ -67,7 +66,7 @@ impl Audit for ExplainAudit {
         notes: &mut Vec<String>,
         election: &Election,
         certificate: File<'_>,
-        told: &Result<Reply, Stop>,
+        told: &Result<Reply, Unanswered>,
     ) -> Result<(), AllocError> {
         push_note_on_yes(alloc, notes, election, certificate, told)
     }
@@ -80,9 +79,9 @@ fn prices_on(
     outcome: &Outcome,
     certificate: File<'_>,
     mode: Mode,
-) -> Result<Reply, Stop>
+) -> Result<Reply, Unanswered>
     requires { OutcomeFits outcome.now election.now }
-    ensures { IfSome (settled (λ r. r) result) (AnswersCertificate (StatesPrices InputName.Certificate) (explained_prices mode) election.now (outcome.now).marks (lent certificate.entry)) }
+    ensures { IfSome (or_refusal (λ r. r) result) (AnswersCertificate (StatesPrices InputName.Certificate) (explained_prices mode) election.now (outcome.now).marks (lent certificate.entry)) }
 {
     let input = InputName::Certificate;
     let findings = price_findings(alloc, election, outcome, input, certificate)?;
@@ -99,13 +98,33 @@ fn findings_reply(
 ) -> Result<Reply, AllocError>
     requires outcome { OutcomeFits outcome.now election.now }
     requires told { CanBeTold election.now findings.now }
-    ensures { IfOk result (λ reply. reply ≡ with_table (price_table mode election.now findings.now ++ groups_told (verdict_of (first_told mode findings.now)) (group_lines election.now (outcome.now).marks (on_groups mode.exhaustive (findings.now).budgets (findings.now).limit))) (verdict_reply mode election.now (outcome.now).marks (verdict_of (first_told mode findings.now)) findings.now)) }
+    ensures { IfOk result (λ reply. reply ≡ spec.explained_verdict mode election.now (outcome.now).marks (verdict_of (first_told mode findings.now)) findings.now (on_groups mode.exhaustive (findings.now).budgets (findings.now).limit) (spec.nearest_on_yes (verdict_of (first_told mode findings.now)) (on_groups mode.exhaustive (findings.now).budgets (findings.now).limit) election.now (outcome.now).marks)) }
 {
-    let mut reply = verdict_reply(alloc, election, outcome, findings, mode)?;
+    let nearest = nearest_on_yes(alloc, election, outcome, findings, mode)?;
+    let mut reply = verdict_reply(alloc, election, outcome, findings, mode, nearest)?;
     reply.lines.push(String::new(alloc))?;
     push_price_table(alloc, &mut reply.lines, election, findings, mode)?;
-    push_groups_on_yes(alloc, &mut reply.lines, election, outcome, findings, mode)?;
+    push_groups_on_yes(alloc, &mut reply.lines, election, findings, mode, nearest)?;
     Ok(reply)
+}
+
+/// The group that comes nearest to what a yes says of groups.
+fn nearest_on_yes(
+    alloc: Global,
+    election: &Election,
+    outcome: &Outcome,
+    findings: &Findings,
+    mode: Mode,
+) -> Result<Option<NearestGroup>, AllocError>
+    requires { OutcomeFits outcome.now election.now }
+    ensures found { IfOk result (λ nearest. nearest ≡ spec.nearest_on_yes (verdict_of (first_told mode findings.now)) (on_groups mode.exhaustive (findings.now).budgets (findings.now).limit) election.now (outcome.now).marks) }
+    ensures project { IfOk result (λ nearest. IfSome nearest (λ g. IsProject election.now g.project)) }
+    ensures voters { IfOk result (λ nearest. IfSome nearest (λ _. 0 < voters election.now)) }
+{
+    match findings.verdict(mode) {
+        Verdict::Supported => nearest_to(alloc, election, outcome, findings.on_groups(mode)),
+        Verdict::Failed(_) => Ok(None),
+    }
 }
 
 /// Adds what a yes says of groups, behind an empty line.
@@ -113,17 +132,18 @@ fn push_groups_on_yes(
     alloc: Global,
     lines: &mut Vec<String>,
     election: &Election,
-    outcome: &Outcome,
     findings: &Findings,
     mode: Mode,
+    nearest: Option<NearestGroup>,
 ) -> Result<(), AllocError>
-    requires { OutcomeFits outcome.now election.now }
-    ensures { OnOk result (map string_bytes lines.new.items ≡ map string_bytes lines.old.items ++ groups_told (verdict_of (first_told mode findings.now)) (group_lines election.now (outcome.now).marks (on_groups mode.exhaustive (findings.now).budgets (findings.now).limit))) }
+    requires project { IfSome nearest (λ g. IsProject election.now g.project) }
+    requires voters { IfSome nearest (λ _. 0 < voters election.now) }
+    ensures { OnOk result (map string_bytes lines.new.items ≡ map string_bytes lines.old.items ++ spec.groups_told (verdict_of (first_told mode findings.now)) (group_lines election.now (on_groups mode.exhaustive (findings.now).budgets (findings.now).limit) nearest)) }
 {
     match findings.verdict(mode) {
         Verdict::Supported => {
             lines.push(String::new(alloc))?;
-            push_group_lines(alloc, lines, election, outcome, findings.on_groups(mode))
+            push_group_lines(alloc, lines, election, findings.on_groups(mode), nearest)
         }
         Verdict::Failed(_) => Ok(()),
     }
@@ -135,9 +155,9 @@ fn violation_on(
     election: &Election,
     outcome: &Outcome,
     certificate: File<'_>,
-) -> Result<Reply, Stop>
+) -> Result<Reply, Unanswered>
     requires { OutcomeFits outcome.now election.now }
-    ensures { IfSome (settled (λ r. r) result) (AnswersCertificate (StatesViolation InputName.Certificate) explained_violation election.now (outcome.now).marks (lent certificate.entry)) }
+    ensures { IfSome (or_refusal (λ r. r) result) (AnswersCertificate (StatesViolation InputName.Certificate) explained_violation election.now (outcome.now).marks (lent certificate.entry)) }
 {
     let violation = violation_of(alloc, InputName::Certificate, certificate, election)?;
     Ok(tests_reply(alloc, election, outcome, &violation)?)
@@ -172,9 +192,9 @@ fn refutation_on(
     outcome: &Outcome,
     certificate: File<'_>,
     stable: bool,
-) -> Result<Reply, Stop>
+) -> Result<Reply, Unanswered>
     requires { OutcomeFits outcome.now election.now }
-    ensures { IfSome (settled (λ r. r) result) (AnswersCertificate StatesRefutation (explained_refutation stable) election.now (outcome.now).marks (lent certificate.entry)) }
+    ensures { IfSome (or_refusal (λ r. r) result) (AnswersCertificate StatesRefutation (explained_refutation stable) election.now (outcome.now).marks (lent certificate.entry)) }
 {
     let refutation = refutation_of(alloc, certificate, election)?;
     Ok(weights_tests_reply(alloc, election, outcome, &refutation, stable)?)

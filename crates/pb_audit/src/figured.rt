@@ -4,23 +4,23 @@ ghost use Rattle.pb_audit.specs.Figured.{FigureRules, FiguresPromise, IsFiguredR
 ghost use Rattle.pb_audit.specs.Inside.Certificates.{IfTold, Tells};
 ghost use Rattle.pb_election.specs.Outcome.{OutcomeFits};
 ghost use Rattle.pb_json.specs.Groups.{CanBeTold};
-ghost use Rattle.pb_reply.specs.Replies.{TellsReply};
-ghost use Rattle.pb_reply.specs.declared.answer.Format.TheVariants.{Lines};
+ghost use Rattle.pb_reply.specs.Replies.{AreJsonLines, TellsReply};
+ghost use Rattle.pb_reply.specs.declared.answer.Format.TheVariants.{Json, Lines};
 ghost use Rattle.pb_reply.specs.Turns.{file_turn, turn};
 
 use pb_certificate::Measure;
 use pb_cohesion::{GroupFigures, group_figures};
 use pb_election::{Election, Outcome};
 use pb_reply::{
-    Answer, Format, Given, Reply, Status, Stop, Telling, push_limit_note, push_notes, settled,
-    take_election, take_outcome,
+    Answer, Format, FromReply, Given, Reply, Status, Unanswered, or_refusal, push_limit_note,
+    push_notes, take_election, take_outcome,
 };
 use std::alloc::{AllocError, Global};
 
 /// How groups are told.
 pub(crate) trait FigureAudit {
     // What is told of the replies.
-    type Told: Telling;
+    type Told: FromReply;
 
     // The measure, the reply by the figures, and what the status of a reply promises.
     ghost rules: { Self → FigureRules };
@@ -54,10 +54,11 @@ pub(crate) fn figured_as<A: FigureAudit<Told = Reply>, E: Given, O: Given>(
     outcome: &mut Option<O>,
     notes: &mut Vec<String>,
 ) -> Result<Answer<Status>, AllocError>
-    ensures { IfOk result (TellsReply format (ReadsFigured (A.rules audit.now) (turn E.delivers election.old election.new) (file_turn O.delivers outcome.old outcome.new))) }
+    ensures told { IfOk result (TellsReply format (ReadsFigured (A.rules audit.now) (turn E.delivers election.old election.new) (file_turn O.delivers outcome.old outcome.new))) }
+    ensures json { format ≡ Json → IfOk result (λ answer. AreJsonLines answer.text) }
 {
     let work = figured_in_turn(alloc, audit, election, outcome, notes);
-    let reply = settled(alloc, work)?;
+    let reply = or_refusal(alloc, work)?;
     reply.answer_as(alloc, format)
 }
 
@@ -72,7 +73,7 @@ pub(crate) fn figured<A: FigureAudit, E: Given, O: Given>(
     ensures { IfOk result (TellsReply Lines (ReadsFigured (A.rules audit.now) (turn E.delivers election.old election.new) (file_turn O.delivers outcome.old outcome.new))) }
 {
     let work = figured_in_turn(alloc, audit, election, outcome, notes);
-    let told = settled(alloc, work)?;
+    let told = or_refusal(alloc, work)?;
     told.into_answer(alloc)
 }
 
@@ -83,7 +84,7 @@ fn figured_in_turn<A: FigureAudit, E: Given, O: Given>(
     election: &mut E,
     outcome: &mut Option<O>,
     notes: &mut Vec<String>,
-) -> Result<A::Told, Stop>
+) -> Result<A::Told, Unanswered>
     ensures { IfTold A.Told.told (ReadsFigured (A.rules audit.now) (turn E.delivers election.old election.new) (file_turn O.delivers outcome.old outcome.new)) result }
 {
     let election = take_election(alloc, election)?;

@@ -35,5 +35,5 @@ pub fn folder_text(
     for entry in entries {
         report = report.add(alloc, entry)?;
     }
-    report.finish()
+    report.finish(alloc)
 }

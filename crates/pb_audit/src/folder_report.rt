@@ -1,25 +1,31 @@
 //! The report on a folder, made of one entry after the other.
-ghost use Rattle.std.specs.Prelude.{◌≡◌, ◌∷◌, ◌++◌, [], List, IfOk, OnOk, false, string_bytes};
-ghost use Rattle.pb_reply.specs.Replies.{text_of};
-ghost use Rattle.serde_json.specs.Data.{string};
+ghost use Rattle.std.specs.Prelude.{◌≡◌, ◌∷◌, ◌++◌, [], List, IfOk, OnOk, OnErr, false, string_bytes, true};
+ghost use Rattle.std.specs.Io.KnownBytes.{Appends};
+ghost use Rattle.pb_records.specs.Loading.{AppendsFront, IsFlushed, Rises};
+ghost use Rattle.pb_records.specs.Records.{Text};
+ghost use Rattle.pb_json.specs.Texts.{IsPlain, most_nested};
+ghost use Rattle.pb_reply.specs.Replies.{AreJsonLines, text_of};
+ghost use Rattle.serde_json.specs.Read.{max_depth};
+ghost use Rattle.serde_json.specs.View.{view};
 ghost use Rattle.serde_json.specs.Written.{compact_text};
 ghost use Rattle.pb_audit.specs.Inside.Folders.{files_of, found_as};
-ghost use Rattle.pb_audit.specs.Reports.{Files, HasTaken, ReportOf, certificate_endings, certificate_lines, file_lines};
+ghost use Rattle.pb_audit.specs.Reports.{AddsJsonLine, IsRestOf, EntryFiles, HasTaken, certificate_endings, certificate_lines, file_lines};
 ghost use Rattle.pb_audit.specs.Reports as spec;
 
 use crate::endings::{ELECTION, PRICES, VIOLATION};
 use crate::folder::Entry;
 use crate::found::{Found, found_of};
 use crate::total::{Ending, FolderStatus, Total};
-use pb_json::json_text;
+use pb_election::{PutFault, Sink, put};
+use pb_json::{entry_json, json_text};
 use pb_price::Mode;
 use pb_reply::{Answer, Reply, Status, push_line};
 use serde_json::Value;
 use std::alloc::{AllocError, Global};
-use std::fmt::Write;
 use std::marker::Model;
 
-/// A report that takes one entry after the other, so that no more than one entry need be in memory.
+/// A report that takes one entry after the other, so that no more than one entry need be in memory. What is there of its
+/// text can be written out ahead of the rest.
 #[derive(Drop)]
 pub struct FolderReport {
     as_json: bool,
@@ -42,7 +48,8 @@ impl FolderReport {
     pub fn new(alloc: Global, as_json: bool, mode: Mode) -> FolderReport
         ensures as_json { result.as_json ≡ as_json }
         ensures mode { result.mode ≡ mode }
-        ensures taken { HasTaken result [] }
+        ensures taken { HasTaken result [] [] }
+        ensures json { AreJsonLines result.text }
     {
         FolderReport {
             as_json,
@@ -58,7 +65,10 @@ impl FolderReport {
         ensures mode { IfOk result (λ more. more.mode ≡ self.mode) }
 
         // Whichever entries the text was of, it is now of these and of the new one.
-        ensures taken { (entries : List Files) → HasTaken self entries → IfOk result (λ more. HasTaken more (entries ++ (files_of entry.now ∷ []))) }
+        ensures taken { (entries : List EntryFiles) → (written : Text) → HasTaken self entries written → IfOk result (λ more. HasTaken more (entries ++ (files_of entry.now ∷ [])) written) }
+
+        // As JSON each line is one value, whatever is in the files and in their name.
+        ensures json { self.as_json ≡ true → AreJsonLines self.text → IfOk result (λ more. AreJsonLines more.text) }
     {
         let FolderReport {
             as_json,
@@ -67,8 +77,8 @@ impl FolderReport {
             mut endings,
         } = self;
         let found = found_of(alloc, entry, mode)?;
-        push_entry(alloc, as_json, &mut text, entry, &found)?;
         push_endings(&mut endings, &found)?;
+        push_entry(alloc, as_json, &mut text, entry, found)?;
         Ok(FolderReport {
             as_json,
             mode,
@@ -77,9 +87,38 @@ impl FolderReport {
         })
     }
 
-    /// The whole report, with the total. An error means out of memory.
-    pub fn finish(self) -> Result<Answer<FolderStatus>, AllocError>
-        ensures { (entries : List Files) → HasTaken self entries → IfOk result (ReportOf self.as_json self.mode entries) }
+    /// Writes out the text so far, and flushes. The report goes on without it; after an error it is lost.
+    pub fn write<W: Sink>(self, out: &mut W) -> Result<FolderReport, PutFault>
+        ensures as_json { IfOk result (λ rest. rest.as_json ≡ self.as_json) }
+        ensures mode { IfOk result (λ rest. rest.mode ≡ self.mode) }
+        ensures taken { (entries : List EntryFiles) → (written : Text) → HasTaken self entries written → IfOk result (λ rest. HasTaken rest entries (written ++ self.text)) }
+        ensures json { IfOk result (λ rest. AreJsonLines rest.text) }
+        ensures all { OnOk result (Appends (W.holds out.old) (W.holds out.new) self.text) }
+        ensures flushed { OnOk result (IsFlushed (W.counts out.old) (W.counts out.new)) }
+        ensures calm { OnOk result ((W.counts out.new).failures ≡ (W.counts out.old).failures) }
+        ensures front { OnErr result (AppendsFront (W.holds out.old) (W.holds out.new) self.text) }
+        ensures failed { OnErr result (Rises (W.counts out.old).failures (W.counts out.new).failures) }
+    {
+        let FolderReport {
+            as_json,
+            mode,
+            mut text,
+            endings,
+        } = self;
+        put(text.as_bytes(), out)?;
+        text.clear();
+        Ok(FolderReport {
+            as_json,
+            mode,
+            text,
+            endings,
+        })
+    }
+
+    /// The report with the total, but for what was written out of it. An error means out of memory.
+    pub fn finish(self, alloc: Global) -> Result<Answer<FolderStatus>, AllocError>
+        ensures rest { (entries : List EntryFiles) → (written : Text) → HasTaken self entries written → IfOk result (IsRestOf self entries written) }
+        ensures json { self.as_json ≡ true → AreJsonLines self.text → IfOk result (λ rest. AreJsonLines rest.text) }
     {
         let FolderReport {
             as_json,
@@ -88,7 +127,7 @@ impl FolderReport {
             endings,
         } = self;
         let total = Total::of(&endings);
-        total.push(as_json, &mut text)?;
+        total.push(alloc, as_json, &mut text)?;
         Ok(Answer {
             text: text.into_bytes(),
             status: total.status(),
@@ -102,14 +141,15 @@ fn push_entry(
     as_json: bool,
     text: &mut String,
     entry: &Entry,
-    found: &Found,
+    found: Found,
 ) -> Result<(), AllocError>
-    ensures { OnOk result (string_bytes text.new ≡ string_bytes text.old ++ text_of (spec.lines_of as_json (found_as entry.now found.now))) }
+    ensures text { OnOk result (string_bytes text.new ≡ string_bytes text.old ++ text_of (spec.lines_of as_json (found_as entry.now found))) }
+    ensures json { as_json ≡ true → OnOk result (AddsJsonLine (string_bytes text.old) (string_bytes text.new)) }
 {
     if as_json {
         push_object(alloc, text, entry, found)
     } else {
-        push_found(text, entry, found)
+        push_found(text, entry, &found)
     }
 }
 
@@ -118,45 +158,39 @@ fn push_object(
     alloc: Global,
     text: &mut String,
     entry: &Entry,
-    found: &Found,
+    found: Found,
 ) -> Result<(), AllocError>
-    ensures { OnOk result (string_bytes text.new ≡ string_bytes text.old ++ text_of (spec.entry_object (found_as entry.now found.now) ∷ [])) }
+    ensures text { OnOk result (string_bytes text.new ≡ string_bytes text.old ++ text_of (spec.entry_object (found_as entry.now found) ∷ [])) }
+    ensures json { OnOk result (AddsJsonLine (string_bytes text.old) (string_bytes text.new)) }
 {
-    let name = name_text(alloc, &entry.name)?;
-    let (prices, violation) = (object_of(&found.prices), object_of(&found.violation));
-    push_members(text, &found.read.json, &name, prices, violation)
+    let object = entry_value(alloc, &entry.name, found)?;
+    let line = json_text(alloc, &object)?;
+    push_line(text, &line)
 }
 
-/// The name of an entry as a text in JSON.
-fn name_text(alloc: Global, name: &str) -> Result<String, AllocError>
-    ensures { IfOk result (λ text. string_bytes text ≡ compact_text (string name.now)) }
+/// The objects of an entry's replies in one.
+fn entry_value(alloc: Global, name: &str, found: Found) -> Result<Value, AllocError>
+    ensures value { IfOk result (λ v. compact_text (view v) ≡ spec.entry_told name.now found.read.json (spec.object_of found.prices) (spec.object_of found.violation)) }
+    ensures plain { IfOk result (λ v. IsPlain max_depth (view v)) }
 {
-    json_text(alloc, &Value::try_from_str(alloc, name)?)
-}
-
-/// Adds the object with these members, in a line.
-fn push_members(
-    text: &mut String,
-    election: &str,
-    name: &str,
-    prices: &str,
-    violation: &str,
-) -> Result<(), AllocError>
-    ensures { OnOk result (string_bytes text.new ≡ string_bytes text.old ++ text_of (spec.entry_of election.now name.now prices.now violation.now ∷ [])) }
-{
-    writeln!(
-        text,
-        "{{\"election\":{election},\"kind\":\"entry\",\"name\":{name},\"prices\":{prices},\"version\":1,\"violation\":{violation}}}"
-    )
+    let Found {
+        read,
+        prices,
+        violation,
+    } = found;
+    let election = read.object.into_value();
+    let (prices, violation) = (value_of(prices), value_of(violation));
+    entry_json(alloc, name, election, prices, violation)
 }
 
 /// The object of a reply, or null where there is none.
-fn object_of(reply: &Option<Reply>) -> &str
-    ensures { result.now ≡ spec.object_of reply.now }
+fn value_of(reply: Option<Reply>) -> Value
+    ensures value { compact_text (view result) ≡ spec.object_of reply }
+    ensures plain { IsPlain most_nested (view result) }
 {
     match reply {
-        Some(reply) => &reply.json,
-        None => "null",
+        Some(reply) => reply.object.into_value(),
+        None => Value::Null,
     }
 }
 

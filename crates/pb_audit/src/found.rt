@@ -14,7 +14,7 @@ use crate::read::election_reply;
 use crate::violation::ViolationAudit;
 use pb_election::Election;
 use pb_price::Mode;
-use pb_reply::{Lend, Loaded, Reply, election_of, settled, stopped};
+use pb_reply::{AsFile, Loaded, Reply, election_of, or_refusal, reply_why};
 use std::alloc::{AllocError, Global};
 
 /// The reply on an election, and on each of its certificates that is audited.
@@ -29,10 +29,10 @@ pub(crate) struct Found {
 pub(crate) fn found_of(alloc: Global, entry: &Entry, mode: Mode) -> Result<Found, AllocError>
     ensures { IfOk result (λ found. Finds mode (files_of entry.now) (found_as entry.now found)) }
 {
-    match election_of(alloc, entry.election.lend()) {
+    match election_of(alloc, entry.election.as_file()) {
         Ok(election) => found_on(alloc, &election, entry, mode),
-        Err(stop) => Ok(Found {
-            read: stopped(alloc, &stop)?,
+        Err(why) => Ok(Found {
+            read: reply_why(alloc, &why)?,
             prices: None,
             violation: None,
         }),
@@ -70,6 +70,6 @@ fn certificate_found<A: Audit<Told = Reply>>(
     let Some(certificate) = certificate else {
         return Ok(None);
     };
-    let work = audit_for(alloc, audit, election, None, certificate.lend());
-    Ok(Some(settled(alloc, work)?))
+    let work = audit_for(alloc, audit, election, None, certificate.as_file());
+    Ok(Some(or_refusal(alloc, work)?))
 }

@@ -6,7 +6,7 @@ ghost use Rattle.pb_election.specs.Outcome.{OutcomeFits};
 ghost use Rattle.pb_json.specs.Groups.{CanBeTold};
 
 use crate::figured::FigureAudit;
-use crate::objects::groups_text;
+use crate::objects::groups_object;
 use pb_certificate::Measure;
 use pb_cohesion::{GroupFigures, GroupsVerdict, first_short, shown_of};
 use pb_election::{Election, Outcome};
@@ -110,8 +110,8 @@ fn groups_reply(
 {
     let verdict = GroupsVerdict::by(first_short(figures));
     let line = groups_line(alloc, election, measure, verdict)?;
-    let json = groups_text(alloc, measure, election, outcome, figures)?;
-    one_line(alloc, line, json, groups_status(verdict))
+    let object = groups_object(alloc, measure, election, outcome, figures)?;
+    one_line(alloc, line, object, groups_status(verdict))
 }
 
 /// The same with the table of the group that is shown.

@@ -6,7 +6,7 @@ ghost use Rattle.pb_price.specs.declared.Mode.{Mode};
 ghost use Rattle.pb_audit.specs.Answers.{AnswersPrices, AnswersRefutation};
 ghost use Rattle.pb_audit.specs.OneAnswer.{JustOne};
 ghost use Rattle.pb_audit.specs.Questions.{Answers};
-ghost use Rattle.pb_audit.specs.Reports.{Files, ReportOf};
+ghost use Rattle.pb_audit.specs.Reports.{EntryFiles, ReportOf};
 ghost use Rattle.pb_audit.specs.declared.question.Question.{Question};
 ghost use Rattle.pb_reply.specs.Replies.{Reply};
 ghost use Rattle.pb_reply.specs.Turns.{gives, gives_file};
@@ -17,7 +17,7 @@ ghost use Rattle.pb_reply.specs.declared.status.Status.TheVariants.{Yes};
 /// and so have the entries of a folder.
 pub fn one_answer()
     ensures question { (format : Format) (q : Question) (election : Delivery) (outcome : Option Delivery) (certificate violation : Delivery) → JustOne (Answers format q (gives election) (gives_file outcome) (gives certificate) (gives violation)) }
-    ensures folder { (as_json : Bool) (m : Mode) (entries : List Files) → JustOne (ReportOf as_json m entries) }
+    ensures folder { (as_json : Bool) (m : Mode) (entries : List EntryFiles) → JustOne (ReportOf as_json m entries) }
 {}
 
 /// For one election and one outcome, a price certificate and a refutation are never both answered by a yes where the

@@ -11,7 +11,7 @@ use pb_election::{Election, Outcome};
 use pb_explain::margin_table_text;
 use pb_input::{InputFault, InputName};
 use pb_price::{Margins, margins_of};
-use pb_reply::{Answer, File, Status, Stop, bytes_of, stop_at};
+use pb_reply::{Answer, File, Status, Unanswered, bytes_of, unanswered_at};
 use std::alloc::{AllocError, Global};
 
 /// The audit that answers with the table of margins.
@@ -31,7 +31,7 @@ impl Audit for MarginAudit {
         election: &Election,
         outcome: &Outcome,
         certificate: File<'_>,
-    ) -> Result<Answer<Status>, Stop> {
+    ) -> Result<Answer<Status>, Unanswered> {
         let margins = price_margins(alloc, election, outcome, certificate)?;
         Ok(Answer {
             text: margin_table_text(alloc, election, &margins)?,
@@ -46,13 +46,16 @@ fn price_margins(
     election: &Election,
     outcome: &Outcome,
     certificate: File<'_>,
-) -> Result<Margins, Stop>
+) -> Result<Margins, Unanswered>
     requires { OutcomeFits outcome.now election.now }
     ensures { IfTaken result (FindsMargins election.now (outcome.now).marks (lent certificate.entry)) }
 {
     let bytes = bytes_of(InputName::Certificate, certificate)?;
     match margins_of(alloc, election, outcome, bytes) {
         Ok(margins) => Ok(margins),
-        Err(refusal) => Err(stop_at(InputName::Certificate, InputFault::Certificate(refusal))),
+        Err(refusal) => Err(unanswered_at(
+            InputName::Certificate,
+            InputFault::Certificate(refusal),
+        )),
     }
 }

@@ -1,9 +1,9 @@
-//! The JSON object of a reply, as a text.
-ghost use Rattle.std.specs.Prelude.{◌≡◌, ◌≤◌, All, IfOk, string_bytes};
+//! The JSON object of a reply.
+ghost use Rattle.std.specs.Prelude.{◌≡◌, ◌≤◌, All, IfOk, IfSome};
 ghost use Rattle.pb_audit.specs.Inside.Certificates.{CanBeTold};
 ghost use Rattle.pb_audit.specs.Objects as spec;
 ghost use Rattle.pb_certificate.specs.Violations.{ClaimFits};
-ghost use Rattle.pb_election.specs.Instance.{IsSet, projects};
+ghost use Rattle.pb_election.specs.Instance.{IsProject, IsSet, projects};
 ghost use Rattle.pb_election.specs.Outcome.{OutcomeFits, most_total};
 ghost use Rattle.pb_json.specs.Groups as of_groups;
 ghost use Rattle.pb_json.specs.Refutations as of_weights;
@@ -18,91 +18,94 @@ use pb_cohesion::{
 };
 use pb_election::{Election, Outcome};
 use pb_json::{
-    both_json, groups_json, json_text, prices_json, read_json, refutation_json, violation_json,
+    Object, both_json, groups_json, prices_json, read_json, refutation_json, violation_json,
 };
-use pb_price::{Findings, Mode};
+use pb_price::{Findings, Mode, NearestGroup};
 use std::alloc::{AllocError, Global};
 
 /// The object on an election that was read.
-pub(crate) fn read_text(alloc: Global, election: &Election) -> Result<String, AllocError>
-    ensures { IfOk result (λ text. string_bytes text ≡ spec.read_text election.now) }
+pub(crate) fn read_object(alloc: Global, election: &Election) -> Result<Object, AllocError>
+    ensures { IfOk result (λ object. object ≡ spec.read_text election.now) }
 {
     let object = read_json(alloc, election)?;
-    json_text(alloc, &object)
+    Ok(Object::new(object))
 }
 
-/// The object on prices in a mode, with the verdict that the findings tell.
-pub(crate) fn price_text(
+/// The object on prices in a mode, with the verdict that the findings tell, and the group that comes nearest to what a yes
+/// says of groups, where it was looked for.
+pub(crate) fn price_object(
     alloc: Global,
     mode: Mode,
     election: &Election,
     outcome: &Outcome,
     findings: &Findings,
-) -> Result<String, AllocError>
+    nearest: Option<NearestGroup>,
+) -> Result<Object, AllocError>
     requires outcome { OutcomeFits outcome.now election.now }
     requires findings { CanBeTold election.now findings.now }
-    ensures { IfOk result (λ text. string_bytes text ≡ spec.price_text mode election.now (outcome.now).marks (verdict_of (first_told mode findings.now)) findings.now) }
+    requires nearest { IfSome nearest (λ g. IsProject election.now g.project) }
+    ensures { IfOk result (λ object. object ≡ spec.price_text mode election.now (outcome.now).marks (verdict_of (first_told mode findings.now)) findings.now nearest) }
 {
     let told = findings.verdict(mode);
-    let object = prices_json(alloc, mode, election, outcome, told, findings)?;
-    json_text(alloc, &object)
+    let object = prices_json(alloc, mode, election, outcome, told, findings, nearest)?;
+    Ok(Object::new(object))
 }
 
 /// The object on a group and its demand, by this measure.
-pub(crate) fn violation_text(
+pub(crate) fn violation_object(
     alloc: Global,
     measure: Measure,
     election: &Election,
     outcome: &Outcome,
     verdict: ViolationVerdict,
     findings: &ViolationFindings,
-) -> Result<String, AllocError>
+) -> Result<Object, AllocError>
     requires outcome { OutcomeFits outcome.now election.now }
     requires cost { (findings.now).cost ≤ most_total }
     requires project { of_group.FindingsNameProject election.now findings.now }
     requires verdict { of_group.VerdictNamesProject election.now verdict }
-    ensures { IfOk result (λ text. string_bytes text ≡ spec.violation_text measure election.now (outcome.now).marks verdict findings.now) }
+    ensures { IfOk result (λ object. object ≡ spec.violation_text measure election.now (outcome.now).marks verdict findings.now) }
 {
     let object = violation_json(alloc, measure, election, outcome, verdict, findings)?;
-    json_text(alloc, &object)
+    Ok(Object::new(object))
 }
 
 /// The object on weights.
-pub(crate) fn refutation_text(
+pub(crate) fn refutation_object(
     alloc: Global,
     election: &Election,
     outcome: &Outcome,
     verdict: RefutationVerdict,
     findings: &RefutationFindings,
-) -> Result<String, AllocError>
+) -> Result<Object, AllocError>
     requires outcome { OutcomeFits outcome.now election.now }
     requires project { of_weights.FindingsNameProject election.now findings.now }
     requires verdict { of_weights.VerdictNamesProject election.now verdict }
-    ensures { IfOk result (λ text. string_bytes text ≡ spec.refutation_text election.now (outcome.now).marks verdict findings.now) }
+    ensures { IfOk result (λ object. object ≡ spec.refutation_text election.now (outcome.now).marks verdict findings.now) }
 {
     let object = refutation_json(alloc, election, outcome, verdict, findings)?;
-    json_text(alloc, &object)
+    Ok(Object::new(object))
 }
 
 /// The object on groups that fall short by this measure, by the figures of all projects.
-pub(crate) fn groups_text(
+pub(crate) fn groups_object(
     alloc: Global,
     measure: Measure,
     election: &Election,
     outcome: &Outcome,
     figures: &[GroupFigures],
-) -> Result<String, AllocError>
+) -> Result<Object, AllocError>
     requires outcome { OutcomeFits outcome.now election.now }
     requires figures { All (of_groups.CanBeTold election.now) figures.now }
-    ensures { IfOk result (λ text. string_bytes text ≡ spec.groups_text measure election.now (outcome.now).marks figures.now) }
+    ensures { IfOk result (λ object. object ≡ spec.groups_text measure election.now (outcome.now).marks figures.now) }
 {
     let object = groups_json(alloc, measure, election, outcome, figures)?;
-    json_text(alloc, &object)
+    Ok(Object::new(object))
 }
 
 /// The object on prices and on a group and its demand, and whether both are a yes.
 #[tactic(auto, using(pb_reply::proofs::Culprits::violation_names_projects, crate::proofs::Explained::group_verdict_named))]
-pub(crate) fn both_text(
+pub(crate) fn both_object(
     alloc: Global,
     mode: Mode,
     election: &Election,
@@ -110,19 +113,19 @@ pub(crate) fn both_text(
     findings: &Findings,
     violation: &Violation,
     all: bool,
-) -> Result<String, AllocError>
+) -> Result<Object, AllocError>
     requires outcome { OutcomeFits outcome.now election.now }
     requires findings { CanBeTold election.now findings.now }
     requires violation { ClaimFits violation.now election.now }
     requires demand { IsSet 1 (projects election.now) (violation.now).demand }
-    ensures { IfOk result (λ text. string_bytes text ≡ spec.both_text mode election.now (outcome.now).marks (verdict_of (first_told mode findings.now)) findings.now ((violation.now).measure, (violation.now).group, (violation.now).demand) all) }
+    ensures { IfOk result (λ object. object ≡ spec.both_text mode election.now (outcome.now).marks (verdict_of (first_told mode findings.now)) findings.now ((violation.now).measure, (violation.now).group, (violation.now).demand) all) }
 {
     let told = findings.verdict(mode);
-    let prices = prices_json(alloc, mode, election, outcome, told, findings)?;
+    let prices = prices_json(alloc, mode, election, outcome, told, findings, None)?;
     let measure = violation.satisfaction();
     let found = violation_findings(election, outcome, violation, &measure);
     let verdict = found.verdict(election);
     let group = violation_json(alloc, measure, election, outcome, verdict, &found)?;
     let both = both_json(alloc, all, prices, group)?;
-    json_text(alloc, &both)
+    Ok(Object::new(both))
 }

@@ -10,7 +10,7 @@ use pb_certificate::{CertFault, Rows};
 use pb_election::Election;
 use pb_money::{cost_grains, payment_grains};
 use pb_price::OnGroups;
-use pb_reply::{File, Reply, Status, Stop, election_of};
+use pb_reply::{File, Reply, Status, Unanswered, election_of};
 use std::alloc::{AllocError, Global};
 
 const SAYS_LITTLE: &str =
@@ -27,7 +27,7 @@ pub fn groups_on_yes(
 ) -> Result<Option<OnGroups>, AllocError> {
     match election_of(alloc, File::in_memory(election)) {
         Ok(election) => groups_by(alloc, &election, certificate, exhaustive),
-        Err(Stop::Memory) => Err(AllocError {}),
+        Err(Unanswered::Memory) => Err(AllocError {}),
         Err(_) => Ok(None),
     }
 }
@@ -54,7 +54,7 @@ pub(crate) fn push_note_on_yes(
     notes: &mut Vec<String>,
     election: &Election,
     certificate: File<'_>,
-    told: &Result<Reply, Stop>,
+    told: &Result<Reply, Unanswered>,
 ) -> Result<(), AllocError> {
     match told {
         Ok(reply) if reply.status == Status::Yes => {

@@ -3,14 +3,16 @@ ghost use Rattle.std.specs.Prelude.{◌≡◌, IfOk, IfSome};
 ghost use Rattle.pb_audit.specs.Answers.{read_reply};
 ghost use Rattle.pb_audit.specs.InTurn.{ReadsElection};
 ghost use Rattle.pb_reply.specs.Lines as spec;
-ghost use Rattle.pb_reply.specs.Inside.Taking.{settled};
-ghost use Rattle.pb_reply.specs.Replies.{TellsReply};
+ghost use Rattle.pb_reply.specs.Inside.Taking.{or_refusal};
+ghost use Rattle.pb_reply.specs.Replies.{AreJsonLines, TellsReply};
 ghost use Rattle.pb_reply.specs.Turns.{turn};
+ghost use Rattle.pb_reply.specs.declared.answer.Format.TheVariants.{Json};
 
-use crate::objects::read_text;
+use crate::objects::read_object;
 use pb_election::{Election, Outcome};
 use pb_reply::{
-    Answer, Format, Given, Reply, Status, Stop, push_notes, read_line, settled, take_election,
+    Answer, Format, Given, Reply, Status, Unanswered, or_refusal, push_notes, read_line,
+    take_election,
 };
 use std::alloc::{AllocError, Global};
 
@@ -21,10 +23,11 @@ pub(crate) fn read<G: Given>(
     election: &mut G,
     notes: &mut Vec<String>,
 ) -> Result<Answer<Status>, AllocError>
-    ensures { IfOk result (TellsReply format (ReadsElection (turn G.delivers election.old election.new))) }
+    ensures told { IfOk result (TellsReply format (ReadsElection (turn G.delivers election.old election.new))) }
+    ensures json { format ≡ Json → IfOk result (λ answer. AreJsonLines answer.text) }
 {
     let work = read_in_turn(alloc, election, notes);
-    let reply: Reply = settled(alloc, work)?;
+    let reply: Reply = or_refusal(alloc, work)?;
     reply.answer_as(alloc, format)
 }
 
@@ -33,8 +36,8 @@ fn read_in_turn<G: Given>(
     alloc: Global,
     election: &mut G,
     notes: &mut Vec<String>,
-) -> Result<Reply, Stop>
-    ensures { IfSome (settled (λ r. r) result) (ReadsElection (turn G.delivers election.old election.new)) }
+) -> Result<Reply, Unanswered>
+    ensures { IfSome (or_refusal (λ r. r) result) (ReadsElection (turn G.delivers election.old election.new)) }
 {
     let election = take_election(alloc, election)?;
     push_notes(alloc, notes, &election)?;
@@ -46,13 +49,13 @@ pub(crate) fn election_reply(alloc: Global, election: &Election) -> Result<Reply
     ensures { IfOk result (λ reply. reply ≡ read_reply (Ok election.now)) }
 {
     let funded = funded_count(alloc, election)?;
-    let json = read_text(alloc, election)?;
+    let object = read_object(alloc, election)?;
     let mut lines = Vec::new(alloc);
     lines.push(read_line(alloc, election, funded)?)?;
     push_notes(alloc, &mut lines, election)?;
     Ok(Reply {
         lines,
-        json,
+        object,
         status: Status::Yes,
     })
 }

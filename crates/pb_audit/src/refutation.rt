@@ -8,11 +8,13 @@ ghost use Rattle.pb_election.specs.Instance.{IsProject};
 ghost use Rattle.pb_election.specs.Outcome.{OutcomeFits};
 
 use crate::auditing::Audit;
-use crate::objects::refutation_text;
+use crate::objects::refutation_object;
 use pb_certificate::Refutation;
 use pb_cohesion::{RefutationFindings, RefutationVerdict, refutation_findings};
 use pb_election::{Election, Outcome};
-use pb_reply::{File, Reply, Stop, one_line, refutation_line, refutation_of, refutation_status};
+use pb_reply::{
+    File, Reply, Unanswered, one_line, refutation_line, refutation_of, refutation_status,
+};
 use std::alloc::{AllocError, Global};
 
 /// The audit of a refutation, of all prices or, where `stable` is asked for, of stable ones.
@@ -35,7 +37,7 @@ impl Audit for RefutationAudit {
         election: &Election,
         outcome: &Outcome,
         certificate: File<'_>,
-    ) -> Result<Reply, Stop> {
+    ) -> Result<Reply, Unanswered> {
         let refutation = refutation_of(alloc, certificate, election)?;
         Ok(weights_reply(alloc, election, outcome, &refutation, self.stable)?)
     }
@@ -73,6 +75,6 @@ pub(crate) fn weights_found_reply(
     ensures { IfOk result (λ reply. reply ≡ spec.weights_reply election.now (outcome.now).marks verdict findings.now) }
 {
     let line = refutation_line(alloc, election, verdict)?;
-    let json = refutation_text(alloc, election, outcome, verdict, findings)?;
-    one_line(alloc, line, json, refutation_status(verdict))
+    let object = refutation_object(alloc, election, outcome, verdict, findings)?;
+    one_line(alloc, line, object, refutation_status(verdict))
 }

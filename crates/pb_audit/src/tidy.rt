@@ -3,7 +3,7 @@ ghost use Rattle.std.specs.Prelude.{IfOk, IfSome};
 ghost use Rattle.pb_audit.specs.InTurn.{ReadsTidy};
 ghost use Rattle.pb_audit.specs.Inside.Certificates.{TidiesPrices};
 ghost use Rattle.pb_reply.specs.Inside.Loaded.{lent};
-ghost use Rattle.pb_reply.specs.Inside.Taking.{IfTaken, settled};
+ghost use Rattle.pb_reply.specs.Inside.Taking.{IfTaken, or_refusal};
 ghost use Rattle.pb_reply.specs.Replies.{answer_of};
 ghost use Rattle.pb_reply.specs.Turns.{turn};
 
@@ -11,7 +11,8 @@ use pb_certificate::canonical_text_of;
 use pb_election::Election;
 use pb_input::{InputFault, InputName};
 use pb_reply::{
-    Answer, File, Given, Lend, Status, Stop, bytes_of, settled, stop_at, take_election,
+    Answer, AsFile, File, Given, Status, Unanswered, bytes_of, or_refusal, take_election,
+    unanswered_at,
 };
 use std::alloc::{AllocError, Global};
 
@@ -25,7 +26,7 @@ pub(crate) fn tidy<E: Given, C: Given>(
     ensures { IfOk result (ReadsTidy (turn E.delivers election.old election.new) (turn C.delivers certificate.old certificate.new)) }
 {
     let work = tidy_in_turn(alloc, election, certificate);
-    settled(alloc, work)
+    or_refusal(alloc, work)
 }
 
 /// The answer, or why there is none.
@@ -33,16 +34,20 @@ fn tidy_in_turn<E: Given, C: Given>(
     alloc: Global,
     election: &mut E,
     certificate: &mut C,
-) -> Result<Answer<Status>, Stop>
-    ensures { IfSome (settled answer_of result) (ReadsTidy (turn E.delivers election.old election.new) (turn C.delivers certificate.old certificate.new)) }
+) -> Result<Answer<Status>, Unanswered>
+    ensures { IfSome (or_refusal answer_of result) (ReadsTidy (turn E.delivers election.old election.new) (turn C.delivers certificate.old certificate.new)) }
 {
     let election = take_election(alloc, election)?;
     let certificate = certificate.take(alloc)?;
-    tidied(alloc, &election, certificate.lend())
+    tidied(alloc, &election, certificate.as_file())
 }
 
 /// The canonical text of the prices that a certificate states, for an election that was accepted.
-fn tidied(alloc: Global, election: &Election, certificate: File<'_>) -> Result<Answer<Status>, Stop>
+fn tidied(
+    alloc: Global,
+    election: &Election,
+    certificate: File<'_>,
+) -> Result<Answer<Status>, Unanswered>
     ensures { IfTaken result (TidiesPrices election.now (lent certificate.entry)) }
 {
     let bytes = bytes_of(InputName::Certificate, certificate)?;
@@ -51,6 +56,9 @@ fn tidied(alloc: Global, election: &Election, certificate: File<'_>) -> Result<A
             text,
             status: Status::Yes,
         }),
-        Err(refusal) => Err(stop_at(InputName::Certificate, InputFault::Certificate(refusal))),
+        Err(refusal) => Err(unanswered_at(
+            InputName::Certificate,
+            InputFault::Certificate(refusal),
+        )),
     }
 }

@@ -1,10 +1,12 @@
 //! The total of a report.
 ghost use Rattle.std.specs.Prelude.{◌≡◌, ◌∷◌, ◌++◌, [], OnOk, count_by, false, string_bytes, true};
 ghost use Rattle.pb_reply.specs.Replies.{text_of};
+ghost use Rattle.pb_audit.specs.Reports.{AddsJsonLine};
 ghost use Rattle.pb_audit.specs.Reports as spec;
 
-use pb_reply::Status;
-use std::alloc::AllocError;
+use pb_json::{json_text, total_json};
+use pb_reply::{Status, push_line};
+use std::alloc::{AllocError, Global};
 use std::fmt::Write;
 
 /// How the report on a folder ends.
@@ -87,24 +89,29 @@ impl Total {
     }
 
     /// Adds the total to a text, as a line or else as an object.
-    pub(crate) fn push(self, as_json: bool, text: &mut String) -> Result<(), AllocError>
-        ensures { OnOk result (string_bytes text.new ≡ string_bytes text.old ++ text_of (spec.total_line as_json self ∷ [])) }
+    pub(crate) fn push(
+        self,
+        alloc: Global,
+        as_json: bool,
+        text: &mut String,
+    ) -> Result<(), AllocError>
+        ensures text { OnOk result (string_bytes text.new ≡ string_bytes text.old ++ text_of (spec.total_line as_json self ∷ [])) }
+        ensures json { as_json ≡ true → OnOk result (AddsJsonLine (string_bytes text.old) (string_bytes text.new)) }
     {
         if as_json {
-            self.push_object(text)
+            self.push_object(alloc, text)
         } else {
             self.push_line(text)
         }
     }
 
-    fn push_object(self, text: &mut String) -> Result<(), AllocError>
-        ensures { OnOk result (string_bytes text.new ≡ string_bytes text.old ++ text_of (spec.total_line true self ∷ [])) }
+    fn push_object(self, alloc: Global, text: &mut String) -> Result<(), AllocError>
+        ensures text { OnOk result (string_bytes text.new ≡ string_bytes text.old ++ text_of (spec.total_line true self ∷ [])) }
+        ensures json { OnOk result (AddsJsonLine (string_bytes text.old) (string_bytes text.new)) }
     {
-        writeln!(
-            text,
-            "{{\"elections\":{},\"kind\":\"total\",\"no\":{},\"refused\":{},\"version\":1,\"yes\":{}}}",
-            self.elections, self.no, self.refused, self.yes
-        )
+        let total = total_json(alloc, self.elections, self.yes, self.no, self.refused)?;
+        let line = json_text(alloc, &total)?;
+        push_line(text, &line)
     }
 
     fn push_line(self, text: &mut String) -> Result<(), AllocError>

@@ -9,12 +9,12 @@ ghost use Rattle.pb_election.specs.Instance.{IsProject, IsSet, projects};
 ghost use Rattle.pb_election.specs.Outcome.{OutcomeFits, most_total};
 
 use crate::auditing::Audit;
-use crate::objects::violation_text;
+use crate::objects::violation_object;
 use pb_certificate::{Measure, Violation};
 use pb_cohesion::{ViolationFindings, ViolationVerdict, violation_findings};
 use pb_election::{Election, Outcome};
 use pb_input::InputName;
-use pb_reply::{File, Reply, Stop, one_line, violation_line, violation_of, violation_status};
+use pb_reply::{File, Reply, Unanswered, one_line, violation_line, violation_of, violation_status};
 use std::alloc::{AllocError, Global};
 
 /// The audit of a violation.
@@ -34,7 +34,7 @@ impl Audit for ViolationAudit {
         election: &Election,
         outcome: &Outcome,
         certificate: File<'_>,
-    ) -> Result<Reply, Stop> {
+    ) -> Result<Reply, Unanswered> {
         let violation = violation_of(alloc, InputName::Certificate, certificate, election)?;
         Ok(group_reply(alloc, election, outcome, &violation)?)
     }
@@ -76,6 +76,6 @@ pub(crate) fn group_found_reply(
     ensures { IfOk result (λ reply. reply ≡ spec.group_reply measure election.now (outcome.now).marks verdict findings.now) }
 {
     let line = violation_line(alloc, election, verdict)?;
-    let json = violation_text(alloc, measure, election, outcome, verdict, findings)?;
-    one_line(alloc, line, json, violation_status(verdict))
+    let object = violation_object(alloc, measure, election, outcome, verdict, findings)?;
+    one_line(alloc, line, object, violation_status(verdict))
 }

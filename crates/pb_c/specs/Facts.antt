@@ -6,7 +6,7 @@ use Rattle.pb_cohesion.specs.declared.ViolationFailure.{ViolationFailure}
 use Rattle.pb_cohesion.specs.declared.ViolationFailure.TheVariants as violation
 use Rattle.pb_price.specs.declared.Failure.{Failure}
 use Rattle.pb_price.specs.declared.Failure.TheVariants as prices
-use Rattle.pb_input.specs.Faults.{fault_number, fault_place}
+use Rattle.pb_input.specs.Faults.{fault_number, fault_record}
 use Rattle.pb_input.specs.declared.InputName.{InputName}
 use Rattle.pb_input.specs.declared.InputName.TheVariants as name
 use Rattle.pb_reply.specs.declared.status.Status.{Status}
@@ -71,12 +71,12 @@ test_of (unmet.Refutation g) = of_refutation g
 test_of (unmet.Groups c k) = culprit 31 0 c
 
 abbrev pub facts_of : Status → Facts
-facts_of Yes = record { input = 0; fault = 0; place = 0; condition = nothing_fails; test = nothing_fails }
-facts_of (No u) = record { input = 0; fault = 0; place = 0; condition = condition_of u; test = test_of u }
+facts_of Yes = record { input = 0; fault = 0; record_number = 0; condition = nothing_fails; test = nothing_fails }
+facts_of (No u) = record { input = 0; fault = 0; record_number = 0; condition = condition_of u; test = test_of u }
 facts_of (Refused r) = record {
   input = input_number r.input;
   fault = fault_number r.fault;
-  place = fault_place r.fault;
+  record_number = fault_record r.fault;
   condition = nothing_fails;
   test = nothing_fails;
 }

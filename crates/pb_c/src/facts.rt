@@ -29,7 +29,7 @@ pub struct Facts {
     /// The number of its fault.
     pub fault: u32,
     /// The record at which the fault stands, from 1, or 0 where it stands at none.
-    pub place: u64,
+    pub record_number: u64,
     /// The first condition on prices that fails.
     pub condition: Culprit,
     /// The first test of a violation, or of a refutation, that fails; or that no group falls short, with the project for
@@ -41,7 +41,7 @@ pub struct Facts {
 pub(crate) const NO_FACTS: Facts = Facts {
     input: 0,
     fault: 0,
-    place: 0,
+    record_number: 0,
     condition: NONE,
     test: NONE,
 };
@@ -66,7 +66,7 @@ pub(crate) fn facts_of(status: Status) -> Facts
         Status::Refused(refusal) => Facts {
             input: input_number(refusal.input),
             fault: refusal.fault.number(),
-            place: refusal.fault.place(),
+            record_number: refusal.fault.record_number(),
             ..NO_FACTS
         },
     }

@@ -2,7 +2,7 @@
 ghost use Rattle.std.specs.Prelude.{◌≡◌, ◌≢◌, ◌==◌, ◌||◌, if◌then◌else◌, IfSome, IfNone};
 ghost use Rattle.pb_certificate.specs.Faults as certificates;
 ghost use Rattle.pb_election.specs.Faults as elections;
-ghost use Rattle.pb_input.specs.Faults.{fault_number, fault_place};
+ghost use Rattle.pb_input.specs.Faults.{fault_number, fault_record};
 ghost use Rattle.pb_certificate.specs.declared.refusal.CertFault.{CertFault};
 ghost use Rattle.pb_election.specs.declared.refusal.ElectionFault.{ElectionFault};
 ghost use Rattle.pb_input.specs.declared.InputFault.{InputFault};
@@ -14,9 +14,9 @@ use pb_input::InputFault;
 
 /// The fault that refusals print with this number, at this record. None where no fault has it. A file that can't be
 /// read, and one that is too long, are refused at no record.
-pub(crate) fn fault_of(number: u32, place: u64) -> Option<InputFault>
+pub(crate) fn fault_of(number: u32, record_number: u64) -> Option<InputFault>
     ensures number { IfSome result (λ fault. fault_number fault ≡ number) }
-    ensures place { IfSome result (λ fault. fault_place fault ≡ (if (number == 18) || (number == 19) then 0 else place)) }
+    ensures record_number { IfSome result (λ fault. fault_record fault ≡ (if (number == 18) || (number == 19) then 0 else record_number)) }
     ensures none { IfNone result ((fault : InputFault) → fault_number fault ≢ number) }
 {
     match number {
@@ -24,11 +24,17 @@ pub(crate) fn fault_of(number: u32, place: u64) -> Option<InputFault>
         19 => Some(InputFault::TooLong),
         1..=17 => {
             let fault = election_fault(number)?;
-            Some(InputFault::Election(Refusal { fault, place }))
+            Some(InputFault::Election(Refusal {
+                fault,
+                record_number,
+            }))
         }
         _ => {
             let fault = certificate_fault(number)?;
-            Some(InputFault::Certificate(CertRefusal { fault, place }))
+            Some(InputFault::Certificate(CertRefusal {
+                fault,
+                record_number,
+            }))
         }
     }
 }

@@ -14,7 +14,7 @@ pub(crate) fn hint_answer(
     alloc: Global,
     input: u8,
     number: u32,
-    place: u64,
+    record_number: u64,
     file: &[u8],
     election: Option<&[u8]>,
     line: &mut u64,
@@ -23,7 +23,7 @@ pub(crate) fn hint_answer(
 {
     *line = 0;
     let mut text = String::new(alloc);
-    if let (Some(kind), Some(fault)) = (kind_of(input), fault_of(number, place)) {
+    if let (Some(kind), Some(fault)) = (kind_of(input), fault_of(number, record_number)) {
         let remarks = hint(alloc, kind, fault, Some(file), election)?;
         *line = line_of(&remarks).unwrap_or(0);
         for sentence in &sentences_of(alloc, &remarks)? {

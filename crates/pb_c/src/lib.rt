@@ -315,7 +315,7 @@ pub extern "C" fn pbaudit_hint(
     alloc: Global,
     input: u8,
     number: u32,
-    place: u64,
+    record_number: u64,
     file: &[u8],
     election: &[u8],
     has_election: bool,
@@ -326,6 +326,6 @@ pub extern "C" fn pbaudit_hint(
     ensures { Reports (λ answer. answer.status ≡ Yes) result out.old out.new needed.new }
 {
     let election = given_bytes(election, has_election);
-    let answer = hint_answer(alloc, input, number, place, file, election, line);
+    let answer = hint_answer(alloc, input, number, record_number, file, election, line);
     report(&answer, out, needed)
 }

@@ -14,7 +14,7 @@ use crate::answers::noted_answer_on;
 use crate::hints::{line_of, sentences_of};
 use pb_audit::{Answer, Format, InputName, InputRefusal, Question, Status};
 use pb_hints::{FileKind, Remark, hint};
-use pb_json::{beside_json, json_text};
+use pb_json::{Object, beside_json};
 use std::alloc::{AllocError, Global};
 
 /// The report on a question: a line with what stands beside the answer, the notes, the refusal and its hint, as a JSON
@@ -89,7 +89,7 @@ fn beside_line(
     ensures { IfOk result (λ text. string_bytes text ≡ text_of (compact_text (beside_json (map string_bytes notes.now) refusal line (map string_bytes sentences.now)) ∷ [])) }
 {
     let beside = beside_json(alloc, notes, refusal, line, sentences)?;
-    let mut text = json_text(alloc, &beside)?;
+    let mut text = Object::new(beside).text(alloc)?;
     text.push('\n')?;
     Ok(text)
 }

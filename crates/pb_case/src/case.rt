@@ -2,8 +2,8 @@
 use crate::labels::Labels;
 use crate::saying::Words;
 use pb_election::{Election, Outcome};
-use pb_explain::NearestGroup;
 use pb_figures::{Balance, Told, push_amount};
+use pb_price::NearestGroup;
 use pb_words::Sentence;
 use std::alloc::AllocError;
 
@@ -13,7 +13,7 @@ pub struct Case<'a> {
     pub words: Words,
     pub election: &'a Election,
     pub outcome: &'a Outcome,
-    pub files: Files,
+    pub files: PageFiles,
     pub labels: Labels,
     /// The currency, as it stands behind amounts. Empty where the election's file names none.
     pub currency: String,
@@ -27,7 +27,7 @@ pub struct Case<'a> {
 
 /// The files that were audited.
 #[derive(Drop)]
-pub struct Files {
+pub struct PageFiles {
     pub election: InputFile,
     pub outcome: Option<InputFile>,
     /// Where the page is about one.

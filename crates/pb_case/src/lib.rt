@@ -6,7 +6,7 @@ mod labels;
 mod naming;
 mod saying;
 
-pub use case::{Case, Files, InputFile};
+pub use case::{Case, InputFile, PageFiles};
 pub use labels::{Labels, labels_of};
 pub use naming::{currency_of, language_of, push_label, shortened, shown_line};
 pub use saying::{Fillings, Words, grouped};

@@ -14,13 +14,13 @@ use Rattle.pb_certificate.specs.declared.refusal.CertFault.{CertFault}
 pub stop-refuses : (form : Form CertFault) (recs : List Rec) (stop : Stop (FaultAt CertFault))
     → StopsFirst form recs stop
     → (refusal_where_stopped stop ≡ no_memory)
-    ⊎ IsFirstFault form recs (refusal_where_stopped stop).place (refusal_where_stopped stop).fault
+    ⊎ IsFirstFault form recs (refusal_where_stopped stop).record_number (refusal_where_stopped stop).fault
 stop-refuses form recs (Fault f) first = inr first
 stop-refuses form recs Memory first = inl refl
 
 -- and where no fault can be the first, it was out of memory
 pub stop-is-memory : (form : Form CertFault) (recs : List Rec) (stop : Stop (FaultAt CertFault))
     → StopsFirst form recs stop
-    → ((f : FaultAt CertFault) → IsFirstFault form recs f.place f.fault → ⊥) → refusal_where_stopped stop ≡ no_memory
+    → ((f : FaultAt CertFault) → IsFirstFault form recs f.record_number f.fault → ⊥) → refusal_where_stopped stop ≡ no_memory
 stop-is-memory form recs (Fault f) first none = absurd (none f first)
 stop-is-memory form recs Memory first none = refl

@@ -1,5 +1,5 @@
 -- The whole numbers that fields state.
-use Rattle.std.proofs.Common.{◌≡◌, ◌≤◌, ◌<◌, ℕ, Bool, true, false, cond, refl, arith, Option, Some, None}
+use Rattle.std.proofs.Common.{is_none, ◌≡◌, ◌≤◌, ◌<◌, ℕ, Bool, true, false, cond, refl, arith, Option, Some, None}
 use Rattle.std.specs.Prelude.{not, nat_le, nat_lt, Result, Ok, Err, is_some}
 use Rattle.std.proofs.lemmas.Bool.{le-leb, lt-leb, ltb-true}
 use Rattle.std.proofs.Math.Bool.{and-false}
@@ -85,6 +85,12 @@ pub voter-was : (o : Option ℕ) (f : Field) (e : Instance) (number : Option ℕ
     → Ok o ≡ cond (is_some number) (Ok (voter_in e f)) (Err fault.BadNumber) → o ≡ voter_in e f
 voter-was o f e (Some n) h = cc
 voter-was o f e None h = cc
+
+-- and it is in digits
+pub digits-were : (o : Option ℕ) (f : Field) (e : Instance) (number : Option ℕ)
+    → Ok o ≡ cond (is_some number) (Ok (voter_in e f)) (Err fault.BadNumber) → is_none number ≡ false
+digits-were o f e (Some n) h = refl
+digits-were o f e None h = cc
 
 -- a number within bounds is what the text states
 pub whole-is : (least most : ℕ) (f : Field) (n : ℕ) → whole_within least most f ≡ Some n → whole_in f ≡ Some n

@@ -36,15 +36,15 @@ certificate_records bytes = records_of (byte ",") bytes
 
 -- the bytes of a file of this form are refused so: no fault stands before that place, and this one stands there
 abbrev pub Refuses : Form CertFault → List ℕ → CertRefusal → Type 0
-Refuses form bytes r = IsFirstFault form (certificate_records bytes) r.place r.fault
+Refuses form bytes r = IsFirstFault form (certificate_records bytes) r.record_number r.fault
 
 -- the refusal that no record causes
 abbrev pub no_memory : CertRefusal
-no_memory = record { fault = fault.Memory; place = 0 }
+no_memory = record { fault = fault.Memory; record_number = 0 }
 
 -- the refusal of a file whose reading stopped so
 abbrev pub refusal_where_stopped : Stop (FaultAt CertFault) → CertRefusal
-refusal_where_stopped (Fault f) = record { fault = f.fault; place = f.place }
+refusal_where_stopped (Fault f) = record { fault = f.fault; record_number = f.record_number }
 refusal_where_stopped Memory = no_memory
 
 -- the number and the name of a fault

@@ -6,5 +6,4 @@ pub mod Kinds
 pub mod NamedRows
 pub mod Outcomes
 pub mod Faults
-pub mod Samples
 pub mod Inside

@@ -25,8 +25,8 @@ pub fn texts_state_prices()
 /// Records are either the text of one price system for the election, or refused at one place for one fault, and never
 /// both.
 pub fn one_answer_on_prices()
-    ensures answered { (recs : List Rec) (e : Instance) → ((p : Prices) × IsPriceText recs e p) ⊎ ((place : ℕ) × (f : CertFault) × IsFirstFault (price_form e) recs place f) }
-    ensures apart { (recs : List Rec) (e : Instance) (p : Prices) (place : ℕ) (f : CertFault) → IsPriceText recs e p → IsFirstFault (price_form e) recs place f → ⊥ }
+    ensures answered { (recs : List Rec) (e : Instance) → ((p : Prices) × IsPriceText recs e p) ⊎ ((record_number : ℕ) × (f : CertFault) × IsFirstFault (price_form e) recs record_number f) }
+    ensures apart { (recs : List Rec) (e : Instance) (p : Prices) (record_number : ℕ) (f : CertFault) → IsPriceText recs e p → IsFirstFault (price_form e) recs record_number f → ⊥ }
     ensures alone { (recs : List Rec) (e : Instance) (p q : Prices) → IsPriceText recs e p → IsPriceText recs e q → p ≡ q }
     ensures first { (recs : List Rec) (e : Instance) (k j : ℕ) (f g : CertFault) → IsFirstFault (price_form e) recs k f → IsFirstFault (price_form e) recs j g → (k ≡ j) × (f ≡ g) }
 {}
@@ -34,24 +34,24 @@ pub fn one_answer_on_prices()
 /// Records are either the text of one measure, one group and one demand, or refused at one place for one fault, and
 /// never both.
 pub fn one_answer_on_violations()
-    ensures answered { (recs : List Rec) (e : Instance) → ((m : Measure) × (s : List ℕ) × (t : List ℕ) × IsViolationText recs e m s t) ⊎ ((place : ℕ) × (f : CertFault) × IsFirstFault (violation_form e) recs place f) }
-    ensures apart { (recs : List Rec) (e : Instance) (m : Measure) (s t : List ℕ) (place : ℕ) (f : CertFault) → IsViolationText recs e m s t → IsFirstFault (violation_form e) recs place f → ⊥ }
+    ensures answered { (recs : List Rec) (e : Instance) → ((m : Measure) × (s : List ℕ) × (t : List ℕ) × IsViolationText recs e m s t) ⊎ ((record_number : ℕ) × (f : CertFault) × IsFirstFault (violation_form e) recs record_number f) }
+    ensures apart { (recs : List Rec) (e : Instance) (m : Measure) (s t : List ℕ) (record_number : ℕ) (f : CertFault) → IsViolationText recs e m s t → IsFirstFault (violation_form e) recs record_number f → ⊥ }
     ensures alone { (recs : List Rec) (e : Instance) (m m' : Measure) (s t s' t' : List ℕ) → IsViolationText recs e m s t → IsViolationText recs e m' s' t' → (m ≡ m') × (s ≡ s') × (t ≡ t') }
     ensures first { (recs : List Rec) (e : Instance) (k j : ℕ) (f g : CertFault) → IsFirstFault (violation_form e) recs k f → IsFirstFault (violation_form e) recs j g → (k ≡ j) × (f ≡ g) }
 {}
 
 /// Records are either the text of one outcome, or refused at one place for one fault, and never both.
 pub fn one_answer_on_outcomes()
-    ensures answered { (recs : List Rec) (e : Instance) → ((w : List Bool) × IsOutcomeText recs e w) ⊎ ((place : ℕ) × (f : CertFault) × IsFirstFault (outcome_form e) recs place f) }
-    ensures apart { (recs : List Rec) (e : Instance) (w : List Bool) (place : ℕ) (f : CertFault) → IsOutcomeText recs e w → IsFirstFault (outcome_form e) recs place f → ⊥ }
+    ensures answered { (recs : List Rec) (e : Instance) → ((w : List Bool) × IsOutcomeText recs e w) ⊎ ((record_number : ℕ) × (f : CertFault) × IsFirstFault (outcome_form e) recs record_number f) }
+    ensures apart { (recs : List Rec) (e : Instance) (w : List Bool) (record_number : ℕ) (f : CertFault) → IsOutcomeText recs e w → IsFirstFault (outcome_form e) recs record_number f → ⊥ }
     ensures alone { (recs : List Rec) (e : Instance) (w w' : List Bool) → IsOutcomeText recs e w → IsOutcomeText recs e w' → w ≡ w' }
     ensures first { (recs : List Rec) (e : Instance) (k j : ℕ) (f g : CertFault) → IsFirstFault (outcome_form e) recs k f → IsFirstFault (outcome_form e) recs j g → (k ≡ j) × (f ≡ g) }
 {}
 
 /// Records are either the text of one refutation, or refused at one place for one fault, and never both.
 pub fn one_answer_on_refutations()
-    ensures answered { (recs : List Rec) (e : Instance) → ((w : Weights) × IsRefutationText recs e w) ⊎ ((place : ℕ) × (f : CertFault) × IsFirstFault (refutation_form e) recs place f) }
-    ensures apart { (recs : List Rec) (e : Instance) (w : Weights) (place : ℕ) (f : CertFault) → IsRefutationText recs e w → IsFirstFault (refutation_form e) recs place f → ⊥ }
+    ensures answered { (recs : List Rec) (e : Instance) → ((w : Weights) × IsRefutationText recs e w) ⊎ ((record_number : ℕ) × (f : CertFault) × IsFirstFault (refutation_form e) recs record_number f) }
+    ensures apart { (recs : List Rec) (e : Instance) (w : Weights) (record_number : ℕ) (f : CertFault) → IsRefutationText recs e w → IsFirstFault (refutation_form e) recs record_number f → ⊥ }
     ensures alone { (recs : List Rec) (e : Instance) (w w' : Weights) → IsRefutationText recs e w → IsRefutationText recs e w' → w ≡ w' }
     ensures first { (recs : List Rec) (e : Instance) (k j : ℕ) (f g : CertFault) → IsFirstFault (refutation_form e) recs k f → IsFirstFault (refutation_form e) recs j g → (k ≡ j) × (f ≡ g) }
 {}

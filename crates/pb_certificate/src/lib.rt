@@ -10,7 +10,6 @@ mod outcomes;
 mod prices;
 mod refusal;
 mod refutations;
-mod samples;
 mod violations;
 
 pub use kind::{Kind, kind_of};

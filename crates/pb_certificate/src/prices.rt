@@ -8,14 +8,14 @@ ghost use Rattle.pb_certificate.specs.Prices.Text.{IsPriceText};
 use crate::CertRefusal;
 use crate::prices::gathering::gather;
 use pb_election::Election;
-use pb_records::Runs;
+use pb_records::RaggedArray;
 use std::alloc::Global;
 use std::marker::Model;
 
 mod canonical;
 mod gathering;
 mod head;
-mod ledger;
+mod payment_sink;
 mod places;
 mod prior_rows;
 mod row;
@@ -34,7 +34,7 @@ pub struct Prices {
     projects: u32,
     denominator: u32,
     budget: u128,
-    payments: Runs<(u32, u128)>,
+    payments: RaggedArray<(u32, u128)>,
 }
 
 impl Model for Prices {
@@ -77,7 +77,7 @@ impl Prices {
         let rows = Rows::open(alloc, bytes, election)?;
         let denominator = rows.denominator();
         let budget = rows.budget();
-        let Ok(mut payments) = Runs::new(alloc) else {
+        let Ok(mut payments) = RaggedArray::new(alloc) else {
             return Err(CertRefusal::NO_MEMORY);
         };
         gather(alloc, rows, election.voters(), &mut payments)?;
@@ -89,7 +89,7 @@ impl Prices {
         projects: u32,
         denominator: u32,
         budget: u128,
-        payments: Runs<(u32, u128)>,
+        payments: RaggedArray<(u32, u128)>,
     ) -> Prices
         requires { IsPriceSystem (record { projects = projects; denominator = denominator; budget = budget; payments = payments }) }
         ensures { result ≡ record { projects = projects; denominator = denominator; budget = budget; payments = payments } }

@@ -40,14 +40,14 @@ pub struct CertRefusal {
     pub fault: CertFault,
     /// The record at which the fault stands. Records are numbered from 1, blank ones included, and the end of the file
     /// is one more than their number. 0 for `Memory`.
-    pub place: u64,
+    pub record_number: u64,
 }
 
 impl CertRefusal {
     /// Out of memory.
     pub(crate) const NO_MEMORY: CertRefusal = CertRefusal {
         fault: CertFault::Memory,
-        place: 0,
+        record_number: 0,
     };
 
     /// The refusal of a file whose reading stopped.
@@ -55,7 +55,10 @@ impl CertRefusal {
         ensures { result ≡ refusal_where_stopped stop }
     {
         match stop {
-            Stop::Fault(FaultAt { fault, place }) => CertRefusal { fault, place },
+            Stop::Fault(at) => CertRefusal {
+                fault: at.fault,
+                record_number: at.record_number,
+            },
             Stop::Memory => CertRefusal::NO_MEMORY,
         }
     }

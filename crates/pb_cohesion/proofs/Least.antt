@@ -1,16 +1,17 @@
 -- The least number that passes a test, and how often a budget counts where prices are stable.
 use Rattle.std.proofs.Common.{◌≡◌, ℕ, zero, suc, ◌+◌, ◌-◌, ◌<◌, ◌≤◌, Bool, true, false, List, [], ◌∷◌, refl, sym, ◌∙◌, ap, inl, inr, arith}
-use Rattle.std.specs.Prelude.{filter, slice_index_or, sum_by}
+use Rattle.std.specs.Prelude.{pos, ◌-ℤ◌, filter, slice_index_or, sum_by}
 use Rattle.std.specs.List.{range_with_len}
 use Rattle.std.proofs.lemmas.Bool.{cases_Bool, cases_eq, cases_lt, false≢true}
 use Rattle.std.proofs.lemmas.Bool.Decides.{nat_tests}
 use Rattle.std.proofs.lemmas.List.Sums.{sum_by-cons}
 use Rattle.pb_records.proofs.Each.{all-every}
 use Rattle.pb_election.specs.Instance.{Instance}
-use Rattle.pb_certificate.specs.Refutations.{Weights, row_of}
+use Rattle.pb_certificate.specs.Refutations.{Weights}
 use Rattle.pb_cohesion.specs.Amounts.{largest_by}
 use Rattle.pb_cohesion.specs.Groups.{gets}
-use Rattle.pb_cohesion.specs.Refutations.{IsLeast, OffersMakeUp, counted_above, counted_in, is_made_up, least_below, most_counted, stable_counted, taken_left}
+use Rattle.pb_cohesion.specs.Refutations.{IsLeast, OffersMakeUp, above, counts, gain, is_made_up, least_below, missed, positive_part, stable_gain}
+use Rattle.pb_cohesion.proofs.Gains.{above-is, part-above}
 use Rattle.pb_cohesion.proofs.Sums.{sum-le}
 
 -- the first number of a range that passes, and d where none does
@@ -67,19 +68,21 @@ none-above f (c ∷ cs) u most =
     omega (arith, none-above f cs u (omega arith), sum_by-cons (λ j. f j - u) c cs)
 
 pub made-up-at-most : (r : Weights) (z : ℕ) (cs : List ℕ)
-    → is_made_up r z cs (largest_by (λ c. counted_in (row_of r c) z) cs) ≡ true
+    → is_made_up r z cs (largest_by (λ c. positive_part (counts r z c)) cs) ≡ true
 made-up-at-most r z cs =
-    let u : ℕ = largest_by (λ c. counted_in (row_of r c) z) cs in
-    let none : counted_above r z cs u ≡ 0 = none-above (λ c. counted_in (row_of r c) z) cs u (omega arith) in
+    let u : ℕ = largest_by (λ c. positive_part (counts r z c)) cs in
+    let none : above r z cs u ≡ 0 =
+    above-is r z cs u ∙ none-above (λ c. positive_part (counts r z c)) cs u (omega arith) in
     rw none (grind (arith, nat_tests))
 
 -- what is made up for at a number is made up for at a larger one
 pub made-up-above : (r : Weights) (z : ℕ) (cs : List ℕ) (x y : ℕ) → x ≤ y → is_made_up r z cs x ≡ true
     → is_made_up r z cs y ≡ true
 made-up-above r z cs x y more made =
-    let less : counted_above r z cs y ≤ counted_above r z cs x =
+    let less : above r z cs y ≤ above r z cs x =
     sum-le _ _ cs
-    (all-every (λ c. counted_in (row_of r c) z - y ≤ counted_in (row_of r c) z - x) cs (λ c. omega arith)) in
+    (all-every (λ c. positive_part (counts r z c -ℤ pos y) ≤ positive_part (counts r z c -ℤ pos x)) cs
+    (λ c. omega (arith, part-above (counts r z c) x, part-above (counts r z c) y))) in
     grind (arith, nat_tests)
 
 pub not-made-up-below : (r : Weights) (z : ℕ) (cs : List ℕ) (x y : ℕ) → x ≤ y → is_made_up r z cs y ≡ false
@@ -90,22 +93,22 @@ not-made-up-below r z cs x y more none = elim (cases_Bool (is_made_up r z cs x))
 ]
 
 -- so often the budget of a voter counts
-pub made-up : (e : Instance) (w : List Bool) (r : Weights) (i : ℕ) → OffersMakeUp e w r i (stable_counted e w r i)
+pub made-up : (e : Instance) (w : List Bool) (r : Weights) (i : ℕ) → OffersMakeUp e w r i (stable_gain e w r i)
 made-up e w r i =
-    let z : ℕ = taken_left e w r i in
-    let passes : is_made_up r z (gets e w i) (stable_counted e w r i) ≡ true =
-    least-passes (most_counted e w r i) (is_made_up r z (gets e w i)) (made-up-at-most r z (gets e w i)) in
+    let z : ℕ = missed e w r i in
+    let passes : is_made_up r z (gets e w i) (stable_gain e w r i) ≡ true =
+    least-passes (gain e w r i) (is_made_up r z (gets e w i)) (made-up-at-most r z (gets e w i)) in
     grind (arith, nat_tests)
 
 pub counts-least : (e : Instance) (w : List Bool) (r : Weights) (i : ℕ)
-    → IsLeast (OffersMakeUp e w r i) (stable_counted e w r i)
+    → IsLeast (OffersMakeUp e w r i) (stable_gain e w r i)
 counts-least e w r i = (
   made-up e w r i,
   λ y makes_up.
-      least-is-least (most_counted e w r i) (is_made_up r (taken_left e w r i) (gets e w i)) y
+      least-is-least (gain e w r i) (is_made_up r (missed e w r i) (gets e w i)) y
       (grind (arith, nat_tests)),
 )
 
 pub counts-at-most : (e : Instance) (w : List Bool) (r : Weights) (i : ℕ)
-    → stable_counted e w r i ≤ most_counted e w r i
-counts-at-most e w r i = least-at-most (most_counted e w r i) (is_made_up r (taken_left e w r i) (gets e w i))
+    → stable_gain e w r i ≤ gain e w r i
+counts-at-most e w r i = least-at-most (gain e w r i) (is_made_up r (missed e w r i) (gets e w i))

@@ -16,6 +16,7 @@ pub mod Firsts
 pub mod Loops
 pub mod Counted
 pub mod Fronts
+pub mod Gains
 pub mod Refuting
 pub mod Least
 pub mod RefutingStable

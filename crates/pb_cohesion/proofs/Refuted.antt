@@ -1,73 +1,48 @@
 -- Weights refute all prices for an outcome exactly where no test fails.
 use Rattle.std.proofs.Common.{◌≡◌, ℕ, ◌<◌, ◌≤◌, ◌⊎◌, Bool, true, false, cond, List, [], ◌∷◌, refl, sym, ◌∙◌, ap, inl, inr, arith}
-use Rattle.std.specs.Prelude.{◌↔◌, IfSome, IsFalse, IsTrue, nat_lt, not, Option, Some, None, slice_get}
-use Rattle.std.proofs.lemmas.Bool.{cases_Bool, cases_lt, false≢true, le-ltb, lt-ltb, not-false}
+use Rattle.std.specs.Prelude.{◌↔◌, IfSome, nat_lt, not, Option, Some, None, slice_get}
+use Rattle.std.proofs.lemmas.Bool.{cases_lt, false≢true, le-ltb, lt-ltb, not-false}
 use Rattle.std.proofs.lemmas.Bool.Decides.{nat_tests}
 use Rattle.pb_records.proofs.Lists.{filter-none}
 use Rattle.pb_election.specs.Instance.{Instance, projects}
 use Rattle.pb_election.specs.Outcome.{has}
 use Rattle.pb_certificate.specs.Refutations.{Weights, row_of}
-use Rattle.pb_certificate.specs.declared.refutations.weighting.Weighting.{Weighting}
 use Rattle.pb_cohesion.specs.FirstU.{FirstStableU, FirstU, SaysUnpriceable, SaysUnpriceableStable, costs_agree, proved, refutation_failures_of, refutation_verdict, verdict_by}
-use Rattle.pb_cohesion.specs.RefutationFindings.{RowsAreInPlace, TellWhichRefutationTestsHold, refutation_findings}
-use Rattle.pb_cohesion.specs.Refutations.{NoPricesSupport, NoPricesWithCoverSupport, NoStablePricesSupport, NoStablePricesWithCoverSupport, Refutes, RefutesAsked, RefutesStable, at_least, at_most, budgets_counted, budgets_taken, culprits_of_U1, is_left, is_misplaced, stable_budgets_counted}
+use Rattle.pb_cohesion.specs.RefutationFindings.{TellWhichRefutationTestsHold, TestsHoldBy, refutation_findings}
+use Rattle.pb_cohesion.specs.Refutations.{CostsDiffer, NoPricesSupport, NoPricesWithCoverSupport, NoStablePricesSupport, NoStablePricesWithCoverSupport, Refutes, RefutesAsked, RefutesBy, RefutesStable, RowsSuit, at_least, at_most, budgets_counted, budgets_taken, counted, culprits_of_U1, gain, stable_budgets_counted, stable_gain, suits}
 use Rattle.pb_cohesion.specs.declared.RefutationFailure.{RefutationFailure}
 use Rattle.pb_cohesion.specs.declared.RefutationFailure.TheVariants.{U2, U3}
 use Rattle.pb_cohesion.specs.declared.RefutationVerdict.TheVariants as verdict
 use Rattle.pb_cohesion.proofs.Culprits.{append-nil, filter-nil, first-none, if-nil, map-nil, nil-append, nil-map}
-use Rattle.pb_cohesion.proofs.Refuting.{CostsDiffer, none_support, none_with_cover_support}
+use Rattle.pb_cohesion.proofs.Gains.{AmountsDiffer, costs-iff}
+use Rattle.pb_cohesion.proofs.Refuting.{none_support, none_with_cover_support}
 use Rattle.pb_cohesion.proofs.RefutingStable.{none_stable_support, none_stable_with_cover_support, stable-from-plain}
 use Rattle.pb_cohesion.proofs.Verdicts.{less-iff, none-counted, through}
 
--- a row is in place
-on-funded : (o : Option Weighting) → (is_misplaced true o ≡ false) ↔ IfSome o (λ x. IsFalse (is_left x.role))
-on-funded None = (λ h. tt, λ h. refl)
-on-funded (Some x) = (λ h. h, λ h. h)
-
-on-unfunded : (o : Option Weighting) → (is_misplaced false o ≡ false) ↔ IfSome o (λ x. IsTrue (is_left x.role))
-on-unfunded None = (λ h. tt, λ h. refl)
-on-unfunded (Some x) = (λ h. not-false _ h, λ h. ap not h)
-
--- all rows are
-U1-iff : (e : Instance) (w : List Bool) (r : Weights) → (culprits_of_U1 e w r ≡ []) ↔ RowsAreInPlace e w r
+-- each row suits the outcome where there is no culprit
+U1-iff : (e : Instance) (w : List Bool) (r : Weights) → (culprits_of_U1 e w r ≡ []) ↔ RowsSuit e w r
 U1-iff e w r = (
-  λ h. (
-    λ c u.
-        (let high : c ≤ projects e = u.0.1 in
-        (on-funded (row_of r c)).0
-        (ap (λ b. is_misplaced b (row_of r c)) (sym u.1)
-        ∙ filter-nil (λ k. is_misplaced (has w k) (row_of r k)) (projects e) 1 h c u.0.0 (omega arith))),
-    λ c u.
-        (let high : c ≤ projects e = u.0.1 in
-        (on-unfunded (row_of r c)).0
-        (ap (λ b. is_misplaced b (row_of r c)) (sym u.1)
-        ∙ filter-nil (λ k. is_misplaced (has w k) (row_of r k)) (projects e) 1 h c u.0.0 (omega arith))),
-  ),
-  λ h. filter-none (λ k. is_misplaced (has w k) (row_of r k)) (projects e) 1
-      (λ c low high.
-      elim (cases_Bool (has w c)) [
-        | inl yes' ↦
-            ap (λ b. is_misplaced b (row_of r c)) yes'
-            ∙ (on-funded (row_of r c)).1 (h.0 c ((low, omega arith), yes'))
-        | inr no' ↦
-            ap (λ b. is_misplaced b (row_of r c)) no'
-            ∙ (on-unfunded (row_of r c)).1 (h.1 c ((low, omega arith), no'))
-      ]),
+  λ h c project.
+      let high : c ≤ projects e = project.1 in
+      not-false _
+      (filter-nil (λ k. not (suits (has w k) (row_of r k))) (projects e) 1 h c project.0 (omega arith)),
+  λ h. filter-none (λ k. not (suits (has w k) (row_of r k))) (projects e) 1
+      (λ c low high. ap not (h c (low, omega arith))),
 )
 
 -- the costs contradict each other
 disagree : (most least cover : ℕ)
-    → (costs_agree most least cover ≡ false) ↔ ((most < least) ⊎ ((most ≡ least) × (0 < cover)))
+    → (costs_agree most least cover ≡ false) ↔ AmountsDiffer most least cover
 disagree most least cover = grind (arith, nat_tests)
 
 U3-iff : (most least cover : ℕ) → (cond (costs_agree most least cover) (U3 ∷ []) [] ≡ [])
-    ↔ ((most < least) ⊎ ((most ≡ least) × (0 < cover)))
+    ↔ AmountsDiffer most least cover
 U3-iff most least cover = through (if-nil (costs_agree most least cover) U3) (disagree most least cover)
 
 -- no test fails, where budgets are counted so often
 tests-iff : (counted : ℕ) (e : Instance) (w : List Bool) (r : Weights)
     → (slice_get (refutation_failures_of counted e w r) 0 ≡ None)
-    ↔ (RowsAreInPlace e w r × (counted ≤ budgets_taken e w r) × CostsDiffer e w r)
+    ↔ (RowsSuit e w r × (counted ≤ budgets_taken e w r) × CostsDiffer e w r)
 tests-iff counted e w r = (
   λ h.
       let all : refutation_failures_of counted e w r ≡ [] = (first-none (refutation_failures_of counted e w r)).0 h in
@@ -75,45 +50,60 @@ tests-iff counted e w r = (
       let second = append-nil _ _ last.0 in (
         (U1-iff e w r).0 (map-nil _ _ second.0),
         (less-iff U2 (budgets_taken e w r) counted).0 second.1,
-        (U3-iff (at_most e w r) (at_least e w r) r.cover).0 last.1,
+        (costs-iff e w r).1 ((U3-iff (at_most e w r) (at_least e w r) r.cover).0 last.1),
       ),
   λ v. (first-none (refutation_failures_of counted e w r)).1 (nil-append _ _ (nil-append _ _
       (nil-map _ _ ((U1-iff e w r).1 v.0))
       ((less-iff U2 (budgets_taken e w r) counted).1 v.1))
-      ((U3-iff (at_most e w r) (at_least e w r) r.cover).1 v.2)),
+      ((U3-iff (at_most e w r) (at_least e w r) r.cover).1 ((costs-iff e w r).0 v.2))),
+)
+
+refutes_by-iff : (gains : ℕ → ℕ) (e : Instance) (w : List Bool) (r : Weights)
+    → (slice_get (refutation_failures_of (counted gains e r) e w r) 0 ≡ None) ↔ RefutesBy gains e w r
+refutes_by-iff gains e w r = (
+  λ h.
+      let tests = (tests-iff (counted gains e r) e w r).0 h in
+      record { rows = tests.0; budgets = tests.1; costs = tests.2 },
+  λ v. (tests-iff (counted gains e r) e w r).1 (v.rows, v.budgets, v.costs),
 )
 
 pub refutes-iff : (e : Instance) (w : List Bool) (r : Weights) → (FirstU e w r ≡ None) ↔ Refutes e w r
-refutes-iff e w r = (
-  λ h.
-      let tests = (tests-iff (budgets_counted e w r) e w r).0 h in
-      record { on_funded = tests.0.0; on_unfunded = tests.0.1; budgets = tests.1; costs = tests.2 },
-  λ v. (tests-iff (budgets_counted e w r) e w r).1 ((v.on_funded, v.on_unfunded), v.budgets, v.costs),
-)
+refutes-iff e w r = refutes_by-iff (gain e w r) e w r
 
 pub refutes_stable-iff : (e : Instance) (w : List Bool) (r : Weights)
     → (FirstStableU e w r ≡ None) ↔ RefutesStable e w r
-refutes_stable-iff e w r = (
-  λ h.
-      let tests = (tests-iff (stable_budgets_counted e w r) e w r).0 h in
-      record { on_funded = tests.0.0; on_unfunded = tests.0.1; budgets = tests.1; costs = tests.2 },
-  λ v. (tests-iff (stable_budgets_counted e w r) e w r).1 ((v.on_funded, v.on_unfunded), v.budgets, v.costs),
-)
+refutes_stable-iff e w r = refutes_by-iff (stable_gain e w r) e w r
 
 -- what the findings tell
+tells-by : (gains : ℕ → ℕ) (stable : Bool) (e : Instance) (w : List Bool) (r : Weights)
+    → TestsHoldBy (counted gains e r) (refutation_findings stable e w r) ↔ RefutesBy gains e w r
+tells-by gains stable e w r =
+    let rows = through (none-counted (culprits_of_U1 e w r)) (U1-iff e w r) in
+    let costs = costs-iff e w r in (
+      λ h. record { rows = rows.0 h.0; budgets = h.1; costs = costs.1 h.2 },
+      λ v. (rows.1 v.rows, v.budgets, costs.0 v.costs),
+    )
+
 pub findings-tell : (stable : Bool) (e : Instance) (w : List Bool) (r : Weights)
     → TellWhichRefutationTestsHold e w r (refutation_findings stable e w r)
 findings-tell stable e w r = record {
-  in_place = through (none-counted (culprits_of_U1 e w r)) (U1-iff e w r);
+  rows = through (none-counted (culprits_of_U1 e w r)) (U1-iff e w r);
   budgets = (λ h. h, λ h. h);
-  stable_budgets = by_form stable;
-  costs = (λ h. h, λ h. h);
+  stable_budgets = budgets_by stable;
+  costs = (λ h. (costs-iff e w r).1 h, λ h. (costs-iff e w r).0 h);
+  refuted = tells-by (gain e w r) stable e w r;
+  refuted_stable = refuted_by stable;
 }
   where
-    by_form : (b : Bool) → IfSome (cond b (Some (stable_budgets_counted e w r)) None)
+    budgets_by : (b : Bool) → IfSome (cond b (Some (stable_budgets_counted e w r)) None)
         (λ n. (n ≤ budgets_taken e w r) ↔ (stable_budgets_counted e w r ≤ budgets_taken e w r))
-    by_form true = (λ h. h, λ h. h)
-    by_form false = tt
+    budgets_by true = (λ h. h, λ h. h)
+    budgets_by false = tt
+
+    refuted_by : (b : Bool) → IfSome (cond b (Some (stable_budgets_counted e w r)) None)
+        (λ n. TestsHoldBy n (refutation_findings stable e w r) ↔ RefutesStable e w r)
+    refuted_by true = tells-by (stable_gain e w r) stable e w r
+    refuted_by false = tt
 
 -- what the verdict says of all prices, and of stable ones alone
 says-plain : (stable : Bool) (cover : ℕ) (o n : Option RefutationFailure)

@@ -1,6 +1,6 @@
 -- Weights that refute leave no prices for the outcome.
 use Rattle.std.proofs.Common.{◌≡◌, ℕ, zero, suc, ◌+◌, ◌-◌, ◌*◌, ◌<◌, ◌≤◌, Bool, true, false, List, length, refl, sym, ◌∙◌, ap, ◌⊎◌, inl, inr, arith}
-use Rattle.std.specs.Prelude.{◌&&◌, IsFalse, not, Option, Some, None, filter, sum_by}
+use Rattle.std.specs.Prelude.{pos, ◌+ℤ◌, ◌&&◌, IsFalse, not, Option, Some, None, filter, sum_by}
 use Rattle.std.specs.List.{AllByRecursion, range_with_len}
 use Rattle.std.specs.Option.{option_map_or}
 use Rattle.std.proofs.lemmas.Bool.{cases_Bool, cases_lt}
@@ -17,8 +17,9 @@ use Rattle.pb_certificate.specs.declared.refutations.weighting.Weighting.{Weight
 use Rattle.pb_cohesion.specs.Amounts.{beta, cost, largest_by, paid, pays, spent}
 use Rattle.pb_cohesion.specs.Conditions.{C1, C2, C3, C4, C5, Cover, S5}
 use Rattle.pb_cohesion.specs.Outcome.{IsFunded, IsUnfunded, funded, unfunded}
-use Rattle.pb_cohesion.specs.Refutations.{NoPricesSupport, NoPricesWithCoverSupport, NothingRefutes, Refutes, Supports, at_least, at_most, budgets_taken, counted_by, counted_in, has_role, is_least, is_most, least_cost, left_cost, misses, most_cost, most_counted, taken_left, weighted_cost}
+use Rattle.pb_cohesion.specs.Refutations.{CostsDiffer, NoPricesSupport, NoPricesWithCoverSupport, NothingRefutes, Refutes, Supports, at_least, at_most, budgets_taken, counts, gain, has_role, is_least, is_most, least_cost, left_cost, missed, misses, most_cost, positive_part, signed_by, weighted_cost}
 use Rattle.pb_cohesion.proofs.Culprits.{filter-filter}
+use Rattle.pb_cohesion.proofs.Gains.{costs-iff, counts-least, counts-left, counts-most}
 use Rattle.pb_cohesion.proofs.Plain.{group-left, left_ℕ, supporters-group, unfunded-all}
 use Rattle.pb_cohesion.proofs.Reaches.{left-le-most, pays-none, pays-wasted}
 use Rattle.pb_cohesion.proofs.Sets.{filter-all}
@@ -65,12 +66,12 @@ supporters-exchange e w v f =
 
 -- how often budgets are taken, voter by voter
 pub taken-budgets : (e : Instance) (w : List Bool) (r : Weights)
-    → budgets_taken e w r ≡ sum_by (taken_left e w r) (all_voters e)
+    → budgets_taken e w r ≡ sum_by (missed e w r) (all_voters e)
 taken-budgets e w r =
     sum-same (λ c. weight r c * length (supporters e c)) (λ c. weight r c * sum_by (λ i. 1) (supporters e c))
     (unfunded e w) (all-every _ (unfunded e w) (λ c. ap (λ k. weight r c * k) (counted (supporters e c))))
     ∙ supporters-exchange e w (weight r) (λ i. 1)
-    ∙ sum-same (λ i. 1 * taken_left e w r i) (taken_left e w r) (all_voters e)
+    ∙ sum-same (λ i. 1 * missed e w r i) (missed e w r) (all_voters e)
     (all-every _ (all_voters e) (λ i. omega arith))
   where
     counted : (s : List ℕ) → length s ≡ sum_by (λ i. 1) s
@@ -102,17 +103,29 @@ supporters-left e w p c within (inr stable) unfunded_is =
 
 -- How often a payment of x counts, by the role and the weight of its project: no more than by u, where that is the most
 -- that one counts.
-role-counts : (role : Role) (k z u x : ℕ) → counted_by role z k ≤ u
+role-counts : (role : Role) (k z u x : ℕ) → positive_part (signed_by role k +ℤ pos z) ≤ u
     → z * x + where_passes (is_least role) (k * x) ≤ u * x + where_passes (is_most role) (k * x)
-role-counts Least k z u x most = let all : (z + k) * x ≤ u * x = mul-le-mul_right x most in omega arith
+role-counts Least k z u x most =
+    let whole : z + k ≤ u = omega (arith, most, counts-least k z) in
+    let all : (z + k) * x ≤ u * x = mul-le-mul_right x whole in
+    omega arith
 role-counts Most k z u x most =
-    let more : z ≤ u + k = omega arith in let all : z * x ≤ (u + k) * x = mul-le-mul_right x more in omega arith
-role-counts Left k z u x most = let all : z * x ≤ u * x = mul-le-mul_right x most in omega arith
+    let more : z ≤ u + k = omega (arith, most, counts-most k z) in
+    let all : z * x ≤ (u + k) * x = mul-le-mul_right x more in
+    omega arith
+role-counts Left k z u x most =
+    let whole : z ≤ u = omega (arith, most, counts-left z) in
+    let all : z * x ≤ u * x = mul-le-mul_right x whole in
+    omega arith
 
-pub row-counts : (row : Option Weighting) (z u x : ℕ) → counted_in row z ≤ u
+pub row-counts : (row : Option Weighting) (z u x : ℕ)
+    → positive_part (option_map_or (λ y. signed_by y.role y.weight) row (pos 0) +ℤ pos z) ≤ u
     → z * x + where_passes (option_map_or (λ y. is_least y.role) row false) (option_map_or (λ y. y.weight) row 0 * x)
     ≤ u * x + where_passes (option_map_or (λ y. is_most y.role) row false) (option_map_or (λ y. y.weight) row 0 * x)
-row-counts None z u x most = let all : z * x ≤ u * x = mul-le-mul_right x most in omega arith
+row-counts None z u x most =
+    let whole : z ≤ u = omega (arith, most, counts-left z) in
+    let all : z * x ≤ u * x = mul-le-mul_right x whole in
+    omega arith
 row-counts (Some y) z u x most = role-counts y.role y.weight z u x most
 
 -- a payment of nothing counts nothing
@@ -126,8 +139,8 @@ none-counts b d z u k x none = rw none (omega (arith, where-zero b k, where-zero
 -- The payment of a voter for a project: what it counts beside the voter's unfunded projects is no more than the most.
 payment-counts : (e : Instance) (w : List Bool) (p : Prices) (r : Weights) (i c : ℕ) → C1 e p → C4 e w p → IsVoter e i
     → IsProject e c
-    → taken_left e w r i * pays p i c + where_passes (has w c && has_role is_least r c) (weight r c * pays p i c)
-    ≤ most_counted e w r i * pays p i c + where_passes (has w c && has_role is_most r c) (weight r c * pays p i c)
+    → missed e w r i * pays p i c + where_passes (has w c && has_role is_least r c) (weight r c * pays p i c)
+    ≤ gain e w r i * pays p i c + where_passes (has w c && has_role is_most r c) (weight r c * pays p i c)
 payment-counts e w p r i c approved none_wasted v project = elim (cases_Bool (has w c)) [
   | inr no' ↦ none-counts _ _ _ _ _ _ (pays-wasted e w p i c none_wasted v project no')
   | inl yes' ↦
@@ -135,10 +148,10 @@ payment-counts e w p r i c approved none_wasted v project = elim (cases_Bool (ha
         | inr no' ↦ none-counts _ _ _ _ _ _ (pays-none e p i c approved v project no')
         | inl approved_is ↦
             let kept : (approves e i c && has w c) ≡ true = rw (approved_is, yes') refl in
-            let most : counted_in (row_of r c) (taken_left e w r i) ≤ most_counted e w r i =
-            largest-kept (λ j. counted_in (row_of r j) (taken_left e w r i)) (λ j. approves e i j && has w j) (projects e)
+            let most : positive_part (counts r (missed e w r i) c) ≤ gain e w r i =
+            largest-kept (λ j. positive_part (counts r (missed e w r i) j)) (λ j. approves e i j && has w j) (projects e)
             1 c project.0 (let high : c ≤ projects e = project.1 in omega arith) kept in
-            rw yes' (row-counts (row_of r c) (taken_left e w r i) (most_counted e w r i) (pays p i c) most)
+            rw yes' (row-counts (row_of r c) (missed e w r i) (gain e w r i) (pays p i c) most)
       ]
 ]
 
@@ -151,12 +164,12 @@ funded-sum e w q f =
 -- all payments of a voter
 voter-counts : (e : Instance) (w : List Bool) (p : Prices) (r : Weights) (i : ℕ) → C1 e p → C2 e p → C4 e w p
     → IsVoter e i
-    → taken_left e w r i * spent e p i
+    → missed e w r i * spent e p i
     + sum_by (λ c. weight r c * pays p i c) (filter (has_role is_least r) (funded e w))
-    ≤ most_counted e w r i * beta p + sum_by (λ c. weight r c * pays p i c) (filter (has_role is_most r) (funded e w))
+    ≤ gain e w r i * beta p + sum_by (λ c. weight r c * pays p i c) (filter (has_role is_most r) (funded e w))
 voter-counts e w p r i approved within none_wasted v =
-    let z : ℕ = taken_left e w r i in
-    let u : ℕ = most_counted e w r i in
+    let z : ℕ = missed e w r i in
+    let u : ℕ = gain e w r i in
     let least : ℕ → ℕ = λ c. where_passes (has w c && has_role is_least r c) (weight r c * pays p i c) in
     let most : ℕ → ℕ = λ c. where_passes (has w c && has_role is_most r c) (weight r c * pays p i c) in
     let each : sum_by (λ c. z * pays p i c + least c) (all_projects e)
@@ -196,7 +209,7 @@ weighted-paid e w p r q paid_for =
 -- most the cost for each project.
 pub weighted-within : (e : Instance) (w : List Bool) (p : Prices) (r : Weights) (f : ℕ → ℕ)
     → ((c : ℕ) → IsUnfunded e w c → sum_by f (supporters e c) ≤ cost e p c)
-    → sum_by (λ i. f i * taken_left e w r i) (all_voters e) ≤ p.denominator * left_cost e w r
+    → sum_by (λ i. f i * missed e w r i) (all_voters e) ≤ p.denominator * left_cost e w r
 weighted-within e w p r f within =
     let each : sum_by (λ c. weight r c * sum_by f (supporters e c)) (unfunded e w)
     ≤ sum_by (λ c. p.denominator * (weight r c * cost_of e c)) (unfunded e w) =
@@ -222,8 +235,8 @@ weighted-within e w p r f within =
 weights-take : (e : Instance) (w : List Bool) (p : Prices) (r : Weights) → Refutes e w r → Supports e w p
     → beta p * (voters e * r.cover) + p.denominator * least_cost e w r ≤ p.denominator * at_most e w r
 weights-take e w p r refutes (low, approved, within, paid_for, none_wasted, form) =
-    let z : ℕ → ℕ = taken_left e w r in
-    let budgets : beta p * (sum_by (most_counted e w r) (all_voters e) + voters e * r.cover)
+    let z : ℕ → ℕ = missed e w r in
+    let budgets : beta p * (sum_by (gain e w r) (all_voters e) + voters e * r.cover)
     ≤ beta p * sum_by z (all_voters e) =
     mul-le-mul_left (beta p) (omega (arith, taken-budgets e w r, refutes.budgets)) in
     let split : beta p * sum_by z (all_voters e)
@@ -233,23 +246,23 @@ weights-take e w p r refutes (low, approved, within, paid_for, none_wasted, form
     (λ i low high. parted (z i) i (low, omega arith))
     ∙ sum-add (λ i. left_ℕ e p i * z i) (λ i. z i * spent e p i) (all_voters e) in
     let counts : sum_by (λ i. z i * spent e p i + least i) (all_voters e)
-    ≤ sum_by (λ i. most_counted e w r i * beta p + most i) (all_voters e) =
+    ≤ sum_by (λ i. gain e w r i * beta p + most i) (all_voters e) =
     range-le _ _ 1 (voters e)
     (λ i low high. voter-counts e w p r i approved within none_wasted (low, omega arith)) in
     let on_least : sum_by (λ i. z i * spent e p i + least i) (all_voters e)
     ≡ sum_by (λ i. z i * spent e p i) (all_voters e) + p.denominator * least_cost e w r =
     sum-add (λ i. z i * spent e p i) least (all_voters e)
     ∙ ap (λ k. sum_by (λ i. z i * spent e p i) (all_voters e) + k) (weighted-paid e w p r (has_role is_least r) paid_for) in
-    let on_most : sum_by (λ i. most_counted e w r i * beta p + most i) (all_voters e)
-    ≡ sum_by (λ i. most_counted e w r i * beta p) (all_voters e) + p.denominator * most_cost e w r =
-    sum-add (λ i. most_counted e w r i * beta p) most (all_voters e)
-    ∙ ap (λ k. sum_by (λ i. most_counted e w r i * beta p) (all_voters e) + k)
+    let on_most : sum_by (λ i. gain e w r i * beta p + most i) (all_voters e)
+    ≡ sum_by (λ i. gain e w r i * beta p) (all_voters e) + p.denominator * most_cost e w r =
+    sum-add (λ i. gain e w r i * beta p) most (all_voters e)
+    ∙ ap (λ k. sum_by (λ i. gain e w r i * beta p) (all_voters e) + k)
     (weighted-paid e w p r (has_role is_most r) paid_for) in
-    let turned : sum_by (λ i. most_counted e w r i * beta p) (all_voters e)
-    ≡ beta p * sum_by (most_counted e w r) (all_voters e) =
-    sum-same (λ i. most_counted e w r i * beta p) (λ i. beta p * most_counted e w r i) (all_voters e)
-    (all-every _ (all_voters e) (λ i. mul_comm (most_counted e w r i) (beta p)))
-    ∙ sum-mul (beta p) (most_counted e w r) (all_voters e) in
+    let turned : sum_by (λ i. gain e w r i * beta p) (all_voters e)
+    ≡ beta p * sum_by (gain e w r) (all_voters e) =
+    sum-same (λ i. gain e w r i * beta p) (λ i. beta p * gain e w r i) (all_voters e)
+    (all-every _ (all_voters e) (λ i. mul_comm (gain e w r i) (beta p)))
+    ∙ sum-mul (beta p) (gain e w r) (all_voters e) in
     omega (arith, weighted-within e w p r (left_ℕ e p) (λ c. supporters-left e w p c within form))
   where
     least : ℕ → ℕ
@@ -269,16 +282,13 @@ abbrev pub Takes : Instance → List Bool → Weights → Prices → Type 0
 Takes e w r p =
     beta p * (voters e * r.cover) + p.denominator * least_cost e w r ≤ p.denominator * at_most e w r
 
-abbrev pub CostsDiffer : Instance → List Bool → Weights → Type 0
-CostsDiffer e w r = (at_most e w r < at_least e w r) ⊎ ((at_most e w r ≡ at_least e w r) × (0 < r.cover))
-
 pub contradicts : (e : Instance) (w : List Bool) (r : Weights) (p : Prices) → 1 ≤ p.denominator → Takes e w r p
     → CostsDiffer e w r → r.cover ≡ 0 → ⊥
 contradicts e w r p low taken costs none =
     let grains : p.denominator * least_cost e w r ≤ p.denominator * at_most e w r = omega arith in
     let less : least_cost e w r ≤ at_most e w r = le_of_mul-le-mul_left grains low in
     let limit : r.cover * e.limit ≡ 0 = ap (λ k. k * e.limit) none ∙ omega arith in
-    elim costs [ inl more ↦ absurd (omega arith) | inr same ↦ absurd (omega (arith, none, same.1)) ]
+    elim ((costs-iff e w r).0 costs) [ inl more ↦ absurd (omega arith) | inr same ↦ absurd (omega (arith, none, same.1)) ]
 
 pub contradicts_cover : (e : Instance) (w : List Bool) (r : Weights) (p : Prices) → Takes e w r p → CostsDiffer e w r
     → 0 < r.cover → Cover e p → ⊥
@@ -287,7 +297,7 @@ contradicts_cover e w r p taken costs some cover =
     mul-lt-mul_of_pos_left cover some in
     let grains : p.denominator * at_least e w r < p.denominator * at_most e w r = omega arith in
     let less : at_least e w r < at_most e w r = lt_of_mul-lt-mul_left p.denominator grains in
-    elim costs [ inl more ↦ absurd (omega arith) | inr same ↦ absurd (omega (arith, same.0)) ]
+    elim ((costs-iff e w r).0 costs) [ inl more ↦ absurd (omega arith) | inr same ↦ absurd (omega (arith, same.0)) ]
 
 -- no prices in either form where Cover has no weight
 pub none_support : (e : Instance) (w : List Bool) (r : Weights) → Refutes e w r → r.cover ≡ 0 → NoPricesSupport e w

@@ -1,6 +1,6 @@
 -- Weights that refute stable prices leave none for the outcome.
 use Rattle.std.proofs.Common.{◌≡◌, ℕ, ◌+◌, ◌-◌, ◌*◌, ◌<◌, ◌≤◌, Bool, true, false, List, min, refl, sym, ◌∙◌, ap, inl, inr, arith}
-use Rattle.std.specs.Prelude.{◌&&◌, IsFalse, Option, filter, sum_by}
+use Rattle.std.specs.Prelude.{pos, ◌+ℤ◌, ◌-ℤ◌, ◌&&◌, IsFalse, Option, filter, sum_by}
 use Rattle.std.specs.Option.{option_map_or}
 use Rattle.std.proofs.lemmas.Bool.{cases_Bool, cases_lt}
 use Rattle.std.proofs.Math.Nat.{mul_comm, mul-le-mul_left}
@@ -14,7 +14,8 @@ use Rattle.pb_cohesion.specs.Amounts.{beta, pays, spent, top}
 use Rattle.pb_cohesion.specs.Conditions.{C1, C2, C4, Cover}
 use Rattle.pb_cohesion.specs.Groups.{gets}
 use Rattle.pb_cohesion.specs.Outcome.{funded}
-use Rattle.pb_cohesion.specs.Refutations.{NoStablePricesSupport, NoStablePricesWithCoverSupport, NothingRefutesStable, Refutes, RefutesStable, SupportsStable, counted_above, counted_in, has_role, is_least, is_most, least_cost, most_cost, most_counted, stable_counted, taken_left}
+use Rattle.pb_cohesion.specs.Refutations.{NoStablePricesSupport, NoStablePricesWithCoverSupport, NothingRefutesStable, Refutes, RefutesStable, SupportsStable, above, counts, gain, has_role, is_least, is_most, least_cost, missed, most_cost, positive_part, signed_by, stable_gain}
+use Rattle.pb_cohesion.proofs.Gains.{part-above}
 use Rattle.pb_cohesion.proofs.Least.{counts-at-most, made-up}
 use Rattle.pb_cohesion.proofs.Plain.{supporters-group}
 use Rattle.pb_cohesion.proofs.Reaches.{pays-none, pays-wasted}
@@ -24,7 +25,8 @@ use Rattle.pb_cohesion.proofs.Stable.{group-offers, most_ℕ}
 use Rattle.pb_cohesion.proofs.Sums.{range-le, sum-add, sum-filter, sum-le, sum-mul, sum-same, where_passes}
 
 -- How often a payment of x counts: what it counts above u, by so much at most, offers make up for.
-row-offers : (row : Option Weighting) (z u d x o : ℕ) → counted_in row z ≤ u + d → x ≤ o
+row-offers : (row : Option Weighting) (z u d x o : ℕ)
+    → positive_part (option_map_or (λ y. signed_by y.role y.weight) row (pos 0) +ℤ pos z) ≤ u + d → x ≤ o
     → z * x + where_passes (option_map_or (λ y. is_least y.role) row false) (option_map_or (λ y. y.weight) row 0 * x)
     ≤ u * x + o * d + where_passes (option_map_or (λ y. is_most y.role) row false) (option_map_or (λ y. y.weight) row 0 * x)
 row-offers row z u d x o most within =
@@ -41,38 +43,38 @@ pays-offer e p i c project =
 
 payment-offers : (e : Instance) (w : List Bool) (p : Prices) (r : Weights) (u i c : ℕ) → C1 e p → C4 e w p
     → IsVoter e i → IsProject e c
-    → taken_left e w r i * pays p i c + where_passes (has w c && has_role is_least r c) (weight r c * pays p i c)
+    → missed e w r i * pays p i c + where_passes (has w c && has_role is_least r c) (weight r c * pays p i c)
     ≤ u * pays p i c
-    + where_passes (approves e i c && has w c) (most_ℕ e p i * (counted_in (row_of r c) (taken_left e w r i) - u))
+    + where_passes (approves e i c && has w c) (most_ℕ e p i * positive_part (counts r (missed e w r i) c -ℤ pos u))
     + where_passes (has w c && has_role is_most r c) (weight r c * pays p i c)
 payment-offers e w p r u i c approved none_wasted v project = elim (cases_Bool (has w c)) [
   | inr no' ↦
-      let none = none-counts (has w c && has_role is_least r c) (has w c && has_role is_most r c) (taken_left e w r i) u
+      let none = none-counts (has w c && has_role is_least r c) (has w c && has_role is_most r c) (missed e w r i) u
       (weight r c) (pays p i c) (pays-wasted e w p i c none_wasted v project no') in
       omega (arith, none)
   | inl yes' ↦
       elim (cases_Bool (approves e i c)) [
         | inr no' ↦
             let none = none-counts (has w c && has_role is_least r c) (has w c && has_role is_most r c)
-            (taken_left e w r i) u (weight r c) (pays p i c) (pays-none e p i c approved v project no') in
+            (missed e w r i) u (weight r c) (pays p i c) (pays-none e p i c approved v project no') in
             omega (arith, none)
         | inl approved_is ↦
             rw (yes', approved_is)
-            (row-offers (row_of r c) (taken_left e w r i) u (counted_in (row_of r c) (taken_left e w r i) - u)
-            (pays p i c) (most_ℕ e p i) (omega arith) (pays-offer e p i c project))
+            (row-offers (row_of r c) (missed e w r i) u (positive_part (counts r (missed e w r i) c -ℤ pos u))
+            (pays p i c) (most_ℕ e p i) (omega (arith, part-above (counts r (missed e w r i) c) u)) (pays-offer e p i c project))
       ]
 ]
 
 -- all payments of a voter, whatever the number u
 payments-offer : (e : Instance) (w : List Bool) (p : Prices) (r : Weights) (u i : ℕ) → C1 e p → C4 e w p → IsVoter e i
-    → taken_left e w r i * spent e p i
+    → missed e w r i * spent e p i
     + sum_by (λ c. weight r c * pays p i c) (filter (has_role is_least r) (funded e w))
-    ≤ u * spent e p i + most_ℕ e p i * counted_above r (taken_left e w r i) (gets e w i) u
+    ≤ u * spent e p i + most_ℕ e p i * above r (missed e w r i) (gets e w i) u
     + sum_by (λ c. weight r c * pays p i c) (filter (has_role is_most r) (funded e w))
 payments-offer e w p r u i approved none_wasted v =
-    let z : ℕ = taken_left e w r i in
-    let above : ℕ → ℕ = λ c. most_ℕ e p i * (counted_in (row_of r c) z - u) in
-    let kept : ℕ → ℕ = λ c. where_passes (approves e i c && has w c) (above c) in
+    let z : ℕ = missed e w r i in
+    let over : ℕ → ℕ = λ c. most_ℕ e p i * positive_part (counts r z c -ℤ pos u) in
+    let kept : ℕ → ℕ = λ c. where_passes (approves e i c && has w c) (over c) in
     let least : ℕ → ℕ = λ c. where_passes (has w c && has_role is_least r c) (weight r c * pays p i c) in
     let most : ℕ → ℕ = λ c. where_passes (has w c && has_role is_most r c) (weight r c * pays p i c) in
     let each : sum_by (λ c. z * pays p i c + least c) (all_projects e)
@@ -90,9 +92,9 @@ payments-offer e w p r u i approved none_wasted v =
     ≡ u * spent e p i + sum_by kept (all_projects e) =
     sum-add (λ c. u * pays p i c) kept (all_projects e)
     ∙ ap (λ k. k + sum_by kept (all_projects e)) (sum-mul u (pays p i) (all_projects e)) in
-    let on_above : sum_by kept (all_projects e) ≡ most_ℕ e p i * counted_above r z (gets e w i) u =
-    sym (sum-filter above (λ c. approves e i c && has w c) (all_projects e))
-    ∙ sum-mul (most_ℕ e p i) (λ c. counted_in (row_of r c) z - u) (gets e w i) in
+    let on_above : sum_by kept (all_projects e) ≡ most_ℕ e p i * above r z (gets e w i) u =
+    sym (sum-filter over (λ c. approves e i c && has w c) (all_projects e))
+    ∙ sum-mul (most_ℕ e p i) (λ c. positive_part (counts r z c -ℤ pos u)) (gets e w i) in
     omega (
       arith,
       funded-sum e w (has_role is_least r) (λ c. weight r c * pays p i c),
@@ -130,16 +132,16 @@ budget-counts z u a o b s l m made within left counts = elim (cases_lt u z) [
 -- so often the budget of a voter counts, beside what it can offer
 voter-offers : (e : Instance) (w : List Bool) (p : Prices) (r : Weights) (i : ℕ) → C1 e p → C2 e p → C4 e w p
     → IsVoter e i
-    → taken_left e w r i * beta p
+    → missed e w r i * beta p
     + sum_by (λ c. weight r c * pays p i c) (filter (has_role is_least r) (funded e w))
-    ≤ stable_counted e w r i * beta p + most_ℕ e p i * taken_left e w r i
+    ≤ stable_gain e w r i * beta p + most_ℕ e p i * missed e w r i
     + sum_by (λ c. weight r c * pays p i c) (filter (has_role is_most r) (funded e w))
 voter-offers e w p r i approved within none_wasted v =
-    budget-counts (taken_left e w r i) (stable_counted e w r i)
-    (counted_above r (taken_left e w r i) (gets e w i) (stable_counted e w r i)) (most_ℕ e p i) (beta p) (spent e p i)
+    budget-counts (missed e w r i) (stable_gain e w r i)
+    (above r (missed e w r i) (gets e w i) (stable_gain e w r i)) (most_ℕ e p i) (beta p) (spent e p i)
     (sum_by (λ c. weight r c * pays p i c) (filter (has_role is_least r) (funded e w)))
     (sum_by (λ c. weight r c * pays p i c) (filter (has_role is_most r) (funded e w))) (made-up e w r i) (within i v)
-    (omega arith) (payments-offer e w p r (stable_counted e w r i) i approved none_wasted v)
+    (omega arith) (payments-offer e w p r (stable_gain e w r i) i approved none_wasted v)
 
 -- a sum of multiples, the other way round
 turned : (f : ℕ → ℕ) (k : ℕ) (xs : List ℕ) → sum_by (λ i. f i * k) xs ≡ k * sum_by f xs
@@ -151,8 +153,8 @@ turned f k xs =
 stable-weights-take : (e : Instance) (w : List Bool) (p : Prices) (r : Weights) → RefutesStable e w r
     → SupportsStable e w p → Takes e w r p
 stable-weights-take e w p r refutes (low, approved, within, paid_for, none_wasted, stable) =
-    let z : ℕ → ℕ = taken_left e w r in
-    let u : ℕ → ℕ = stable_counted e w r in
+    let z : ℕ → ℕ = missed e w r in
+    let u : ℕ → ℕ = stable_gain e w r in
     let o : ℕ → ℕ = most_ℕ e p in
     let budgets : beta p * (sum_by u (all_voters e) + voters e * r.cover) ≤ beta p * sum_by z (all_voters e) =
     mul-le-mul_left (beta p) (omega (arith, taken-budgets e w r, refutes.budgets)) in
@@ -217,12 +219,7 @@ nothing_refutes_stable e w p cover supports covered r refutes = (some, never cov
 -- weights that refute all prices refute the stable ones
 pub stable-from-plain : (e : Instance) (w : List Bool) (r : Weights) → Refutes e w r → RefutesStable e w r
 stable-from-plain e w r refutes =
-    let fewer : sum_by (stable_counted e w r) (all_voters e) ≤ sum_by (most_counted e w r) (all_voters e) =
-    sum-le _ _ (all_voters e) (all-every (λ i. stable_counted e w r i ≤ most_counted e w r i) (all_voters e)
+    let fewer : sum_by (stable_gain e w r) (all_voters e) ≤ sum_by (gain e w r) (all_voters e) =
+    sum-le _ _ (all_voters e) (all-every (λ i. stable_gain e w r i ≤ gain e w r i) (all_voters e)
     (counts-at-most e w r)) in
-    record {
-      on_funded = refutes.on_funded;
-      on_unfunded = refutes.on_unfunded;
-      budgets = omega (arith, refutes.budgets);
-      costs = refutes.costs;
-    }
+    record { rows = refutes.rows; budgets = omega (arith, refutes.budgets); costs = refutes.costs }

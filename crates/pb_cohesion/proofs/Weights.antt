@@ -6,11 +6,11 @@ use Rattle.std.proofs.lemmas.List.{take_more}
 use Rattle.std.proofs.lemmas.List.Elements.{filter-append}
 use Rattle.pb_election.specs.Instance.{Instance, IsSet, all_projects, ballot_of, cost_of, projects}
 use Rattle.pb_election.specs.Outcome.{has}
-use Rattle.pb_certificate.specs.Refutations.{Weights, row_of, weight}
+use Rattle.pb_certificate.specs.Refutations.{Weights, weight}
 use Rattle.pb_cohesion.specs.Amounts.{largest_by}
 use Rattle.pb_cohesion.specs.Groups.{gets}
 use Rattle.pb_cohesion.specs.RefutationFindings.{paid_at_least, paid_or_left_at_most}
-use Rattle.pb_cohesion.specs.Refutations.{at_least, at_most, counted_in, has_role, is_least, is_made_up, is_most, least_below, left_cost, most_counted, stable_counted, taken_left}
+use Rattle.pb_cohesion.specs.Refutations.{at_least, at_most, counts, gain, has_role, is_least, is_made_up, is_most, least_below, left_cost, missed, positive_part, stable_gain}
 use Rattle.pb_cohesion.proofs.Ballots.{ballot-part, gets-ballot}
 use Rattle.pb_cohesion.proofs.Counted.{largest-push}
 use Rattle.pb_cohesion.proofs.Refuting.{funded-sum}
@@ -18,27 +18,27 @@ use Rattle.pb_cohesion.proofs.Sums.{sum-add, sum-filter, where_passes}
 
 -- what is taken of a voter is what the unfunded projects of its ballot weigh
 pub left-is : (e : Instance) (w : List Bool) (r : Weights) (i : ℕ) (b : List ℕ) (n : ℕ) → b ≡ ballot_of e i
-    → IsSet 1 (projects e) b → n ≡ sum_by (weight r) (filter (λ j. not (has w j)) b) → n ≡ taken_left e w r i
+    → IsSet 1 (projects e) b → n ≡ sum_by (weight r) (filter (λ j. not (has w j)) b) → n ≡ missed e w r i
 left-is e w r i b n is rises n-is = grind (arith, ballot-part)
 
 -- so often a payment of the voter counts at the most
 pub counted-is : (e : Instance) (w : List Bool) (r : Weights) (i : ℕ) (b : List ℕ) (n z : ℕ) → b ≡ ballot_of e i
-    → IsSet 1 (projects e) b → n ≡ largest_by (λ j. counted_in (row_of r j) z) (filter (has w) b)
-    → z ≡ taken_left e w r i → n ≡ most_counted e w r i
+    → IsSet 1 (projects e) b → n ≡ largest_by (λ j. positive_part (counts r z j)) (filter (has w) b)
+    → z ≡ missed e w r i → n ≡ gain e w r i
 counted-is e w r i b n z is rises n-is z-is = grind (arith, gets-ballot)
 
 -- so often its budget counts where prices are stable
 pub stable-counted-is : (e : Instance) (w : List Bool) (r : Weights) (i : ℕ) (b : List ℕ) (n z : ℕ) → b ≡ ballot_of e i
     → IsSet 1 (projects e) b
-    → n ≡ least_below (largest_by (λ j. counted_in (row_of r j) z) (filter (has w) b)) (is_made_up r z (filter (has w) b))
-    → z ≡ taken_left e w r i → n ≡ stable_counted e w r i
+    → n ≡ least_below (largest_by (λ j. positive_part (counts r z j)) (filter (has w) b)) (is_made_up r z (filter (has w) b))
+    → z ≡ missed e w r i → n ≡ stable_gain e w r i
 stable-counted-is e w r i b n z is rises n-is z-is =
     let kept : filter (has w) b ≡ gets e w i =
     ap (filter (has w)) is
     ∙ sym (gets-ballot e w i (subst (λ t. IsSet 1 (projects e) t) is rises)) in
     n-is
-    ∙ ap (λ cs. least_below (largest_by (λ j. counted_in (row_of r j) z) cs) (is_made_up r z cs)) kept
-    ∙ ap (λ k. least_below (largest_by (λ j. counted_in (row_of r j) k) (gets e w i)) (is_made_up r k (gets e w i))) z-is
+    ∙ ap (λ cs. least_below (largest_by (λ j. positive_part (counts r z j)) cs) (is_made_up r z cs)) kept
+    ∙ ap (λ k. least_below (largest_by (λ j. positive_part (counts r k j)) (gets e w i)) (is_made_up r k (gets e w i))) z-is
 
 -- the two sides of costs, project by project
 pub at_least-is : (e : Instance) (w : List Bool) (r : Weights)

@@ -14,4 +14,3 @@ pub mod Closest
 pub mod Shown
 pub mod Inside
 pub mod Larger
-pub mod Samples

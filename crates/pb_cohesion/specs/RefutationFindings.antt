@@ -1,10 +1,9 @@
 -- What each test of a refutation comes to.
-use Rattle.std.specs.Prelude.{◌≡◌, ◌↔◌, ◌⊎◌, ◌<◌, ◌≤◌, ◌*◌, ◌+◌, ◌&&◌, not, if◌then◌else◌, ℕ, Bool, IfSome, IsFalse, IsTrue, List, Some, None, length, slice_get}
+use Rattle.std.specs.Prelude.{◌≡◌, ◌↔◌, ◌⊎◌, ◌<◌, ◌≤◌, ◌*◌, ◌+◌, ◌&&◌, not, if◌then◌else◌, ℕ, Bool, IfSome, List, Some, None, length, slice_get}
 use Rattle.pb_election.specs.Instance.{Instance, cost_of}
 use Rattle.pb_election.specs.Outcome.{has}
-use Rattle.pb_certificate.specs.Refutations.{Weights, row_of, weight}
-use Rattle.pb_cohesion.specs.Refutations.{at_least, at_most, budgets_counted, budgets_taken, culprits_of_U1, has_role, is_least, is_left, is_most, stable_budgets_counted}
-use Rattle.pb_cohesion.specs.Outcome.{IsFunded, IsUnfunded}
+use Rattle.pb_certificate.specs.Refutations.{Weights, weight}
+use Rattle.pb_cohesion.specs.Refutations.{CostsDiffer, Refutes, RefutesStable, RowsSuit, at_least, at_most, budgets_counted, budgets_taken, counted, culprits_of_U1, gain, has_role, is_least, is_most, stable_budgets_counted, stable_gain}
 use Rattle.pb_cohesion.specs.declared.MisplacedRows.{MisplacedRows}
 use Rattle.pb_cohesion.specs.declared.RefutationFindings.{RefutationFindings}
 
@@ -34,19 +33,22 @@ paid_or_left_at_most e w r c =
     (if has w c && has_role is_most r c then weight r c * cost_of e c else 0)
     + (if not (has w c) then weight r c * cost_of e c else 0)
 
--- each row is one for projects that are funded so
-abbrev pub RowsAreInPlace : Instance → List Bool → Weights → Type 0
-RowsAreInPlace e w r =
-    ((c : ℕ) → IsFunded e w c → IfSome (row_of r c) (λ x. IsFalse (is_left x.role)))
-    × ((c : ℕ) → IsUnfunded e w c → IfSome (row_of r c) (λ x. IsTrue (is_left x.role)))
+-- by the findings all tests hold, where budgets are counted so often
+abbrev pub TestsHoldBy : ℕ → RefutationFindings → Type 0
+TestsHoldBy counted f =
+    (f.misplaced.count ≡ 0) × (counted ≤ f.taken)
+    × ((f.at_most < f.at_least) ⊎ ((f.at_most ≡ f.at_least) × (0 < f.cover)))
 
 -- What the findings tell: U1 holds where no row is misplaced, U2 where budgets are counted no more often than they are
--- taken, for stable prices too where these are asked about, and U3 where more is paid at least than is paid and left at most, or as much and Cover has a weight.
+-- taken, for stable prices too where these are asked about, and U3 where more is paid at least than is paid and left at
+-- most, or as much and Cover has a weight. The weights refute all prices, or the stable ones, exactly where by the findings
+-- all three hold.
 pub record TellWhichRefutationTestsHold (e : Instance) (w : List Bool) (r : Weights)
     (f : RefutationFindings) : Type 0 where
-  pub in_place : (f.misplaced.count ≡ 0) ↔ RowsAreInPlace e w r
-  pub budgets : (f.counted ≤ f.taken) ↔ (budgets_counted e w r ≤ budgets_taken e w r)
+  pub rows : (f.misplaced.count ≡ 0) ↔ RowsSuit e w r
+  pub budgets : (f.counted ≤ f.taken) ↔ (counted (gain e w r) e r ≤ budgets_taken e w r)
   pub stable_budgets : IfSome f.counted_stable
-      (λ n. (n ≤ f.taken) ↔ (stable_budgets_counted e w r ≤ budgets_taken e w r))
-  pub costs : ((f.at_most < f.at_least) ⊎ ((f.at_most ≡ f.at_least) × (0 < f.cover)))
-      ↔ ((at_most e w r < at_least e w r) ⊎ ((at_most e w r ≡ at_least e w r) × (0 < r.cover)))
+      (λ n. (n ≤ f.taken) ↔ (counted (stable_gain e w r) e r ≤ budgets_taken e w r))
+  pub costs : ((f.at_most < f.at_least) ⊎ ((f.at_most ≡ f.at_least) × (0 < f.cover))) ↔ CostsDiffer e w r
+  pub refuted : TestsHoldBy f.counted f ↔ Refutes e w r
+  pub refuted_stable : IfSome f.counted_stable (λ n. TestsHoldBy n f ↔ RefutesStable e w r)

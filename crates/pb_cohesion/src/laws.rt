@@ -19,7 +19,7 @@ ghost use Rattle.pb_cohesion.specs.Groups.{Offer, Violates};
 ghost use Rattle.pb_cohesion.specs.Larger.{FundsNoLess, with_limit};
 ghost use Rattle.pb_cohesion.specs.Outcome.{total};
 ghost use Rattle.pb_cohesion.specs.RefutationFindings.{TellWhichRefutationTestsHold, refutation_findings};
-ghost use Rattle.pb_cohesion.specs.Refutations.{NoPricesSupport, NoPricesWithCoverSupport, NothingRefutes, Refutes, Supports, IsLeast, NoStablePricesSupport, NoStablePricesWithCoverSupport, NothingRefutesStable, OffersMakeUp, RefutesStable, SupportsStable, most_counted, stable_counted};
+ghost use Rattle.pb_cohesion.specs.Refutations.{NoPricesSupport, NoPricesWithCoverSupport, NothingRefutes, Refutes, Supports, IsLeast, NoStablePricesSupport, NoStablePricesWithCoverSupport, NothingRefutesStable, OffersMakeUp, RefutesStable, SupportsStable, gain, stable_gain};
 ghost use Rattle.pb_cohesion.specs.Short.{IsLargestShort, SatisfiesEjrPlus, FallsShort};
 ghost use Rattle.pb_cohesion.specs.ViolationFindings.{TellWhichTestsHold, violation_findings};
 
@@ -173,11 +173,11 @@ pub fn refutations_exclude_stable_prices()
     ensures plain { (e : Instance) (w : List Bool) (r : Weights) → Refutes e w r → RefutesStable e w r }
 {}
 
-/// How often a voter's budget counts where prices are stable is the least number at which offers make up for what
-/// payments count above it, and no more than the most that a payment counts.
+/// A voter's gain where prices are stable is the least number at which offers make up for what payments count above it,
+/// and no more than its gain for all prices.
 pub fn stable_counts_are_least()
-    ensures least { (e : Instance) (w : List Bool) (r : Weights) (i : ℕ) → IsLeast (OffersMakeUp e w r i) (stable_counted e w r i) }
-    ensures at_most { (e : Instance) (w : List Bool) (r : Weights) (i : ℕ) → stable_counted e w r i ≤ most_counted e w r i }
+    ensures least { (e : Instance) (w : List Bool) (r : Weights) (i : ℕ) → IsLeast (OffersMakeUp e w r i) (stable_gain e w r i) }
+    ensures at_most { (e : Instance) (w : List Bool) (r : Weights) (i : ℕ) → stable_gain e w r i ≤ gain e w r i }
 {}
 
 /// Weights refute all prices for an outcome, those under Cover where that has a weight, exactly where no test fails. So
@@ -189,7 +189,8 @@ pub fn refutation_where_no_test_fails()
 
 /// The findings on a refutation tell which tests hold: U1 where there is no culprit, U2 where budgets are counted no
 /// more often than they are taken, and U3 where more is paid at least than is paid and left at most, or as much and Cover
-/// has a weight.
+/// has a weight. Where by the findings all three hold, and nowhere else, the weights refute all prices, or the stable
+/// ones.
 pub fn refutation_findings_tell_what_holds()
     ensures { (stable : Bool) (e : Instance) (w : List Bool) (r : Weights) → TellWhichRefutationTestsHold e w r (refutation_findings stable e w r) }
 {}

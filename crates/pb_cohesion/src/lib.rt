@@ -6,7 +6,6 @@ mod explaining;
 mod funded;
 pub mod laws;
 mod refutations;
-mod samples;
 mod satisfactions;
 mod short;
 mod violations;

@@ -1,64 +1,20 @@
 -- Words that clap finds no fault with ask for a task.
 use Rattle.std.proofs.Common.{◌≡◌, ◌||◌, refl, Bool, true, false, not, List, [], ◌∷◌, Option, Some, None, is_some, option_map, codes, arith}
-use Rattle.std.specs.Prelude.{find, fold, if◌then◌else◌, slice_get, unwrap_or}
+use Rattle.std.specs.Prelude.{find, if◌then◌else◌, unwrap_or}
 use Rattle.std.specs.Str.{bytes_eq}
 use Rattle.std.specs.Option.{option_map_or}
-use Rattle.clap.specs.Kinds.{Kinds, check_kinds, or_else}
 use Rattle.clap.specs.Simple.{Shape, built, entered, help_shape, label_of, rows_at}
 use Rattle.clap.specs.Takes.{is_given}
-use Rattle.clap.specs.Faults.{check_fault, entered_fault, fault_of, level_fault, turn_fault, walk_fault}
+use Rattle.clap.specs.Faults.{check_fault, entered_fault, fault_of, level_fault}
 use Rattle.clap.specs.declared.error.kind.ErrorKind.TheVariants as kind
-use Rattle.clap.specs.Walk.{Names, Row, Text, Walk, answers_to, first_of, nothing_held, rows_after, walked, walked_from}
+use Rattle.clap.specs.Walk.{Row, Text, answers_to, first_of, nothing_held, rows_after}
 use Rattle.pb_command.specs.Commands.{pbaudit}
 use Rattle.pb_command.proofs.Written.{commands_written}
 use Rattle.pb_command.specs.Tasks.{Asked, Paths, TaskOf, about_certificate, about_groups, about_in, asked_by, asked_in, from_both, is_named, is_on, measure_in, names_conditions, of_certificate, of_groups, of_neither, outcome_paths_in, paths_in}
-use Rattle.pb_command.proofs.Positionals.{IsFull, IsPlaced, found_row_full, level_full}
+use Rattle.pb_command.proofs.Clap.Positionals.{IsPlaced}
+use Rattle.pb_command.proofs.Clap.Faultless.{IsNotHelp, given_first, last_passes, level_check, one_given, or_else_none, three_given, two_given, walk_stop}
 
-or_else_none : (a b : Kinds) → or_else a b ≡ [] → (a ≡ []) × (b ≡ [])
-or_else_none [] b e = (refl, e)
-or_else_none (k ∷ ks) b e = cc
-
--- ---- the subcommand that was met is not `help`
-
-abbrev IsNotHelp : Option (Text × List Text) → Type 0
-IsNotHelp None = Unit {0}
-IsNotHelp (Some p) = bytes_eq p.0 (codes "help") ≡ false
-
-turn_stop : (s : Shape) (names : Names) (o : Option (Text × List Text)) (w : Walk) (word : Text)
-    → s.disable_help_subcommand ≡ false → w.stopped ≡ o
-    → turn_fault s names w word ≡ [] → IsNotHelp o → IsNotHelp (walked_from s.rules names o w word).stopped
-turn_stop s names o w word helps at_o e n = grind arith
-
-walk_stop : (s : Shape) (names : Names) (words : List Text) (w : Walk) → s.disable_help_subcommand ≡ false
-    → walk_fault s names w words ≡ []
-    → IsNotHelp w.stopped → IsNotHelp (fold (walked s.rules names) w words).stopped
-unfolding walked walk_fault
-walk_stop s names [] w helps e n = n
-walk_stop s names (word ∷ rest) w helps e n =
-    let parts = or_else_none (turn_fault s names w word) (walk_fault s names (walked s.rules names w word) rest) e in
-    walk_stop s names rest (walked s.rules names w word) helps parts.1
-    (turn_stop s names w.stopped w word helps refl parts.0 n)
-
--- ---- a level without a fault has its required arguments
-
-level_check : (s : Shape) (names : Names) (words : List Text) → level_fault s names nothing_held words false [] ≡ []
-    → check_fault s (rows_after s.rules names words) false ≡ []
-level_check s names words e = grind arith
-
-last_passes : (a b c : Bool) → check_kinds a b c ≡ [] → c ≡ false
-last_passes a b c e = grind arith
-
-first_full : (vs : List Text) → IsFull vs → is_some (slice_get vs 0) ≡ true
-first_full [] h = absurd h
-first_full (v ∷ vs) h = refl
-
-given_first : (id : Text) (s : Shape) (words : List Text) → IsPlaced id s.rules
-    → is_given id (rows_after s.rules [] words) ≡ true
-    → is_some (first_of id (rows_after s.rules [] words)) ≡ true
-given_first id s words placed given = grind (arith, is_some, first_full, found_row_full, level_full)
-
--- ---- each command
-
+-- each command
 abbrev AsksByName : Shape → Type 0
 AsksByName s = (n : Text) → answers_to n (label_of s) ≡ true → bytes_eq n (codes "help") ≡ false → (rest : List Text)
     → level_fault s [] nothing_held rest false [] ≡ [] → is_some (asked_by s.name (rows_after s.rules [] rest)) ≡ true
@@ -90,17 +46,6 @@ map_some f (Some x) e = refl
 both_some : {A B C : Type 0} (f : A → B → C) (a : Option A) (b : Option B) → is_some a ≡ true → is_some b ≡ true
     → is_some (from_both f a b) ≡ true
 both_some f a b ea eb = grind arith
-
-one_given : (a : Bool) → (not a || false) ≡ false → a ≡ true
-one_given true e = refl
-one_given false e = cc
-
-two_given : (a b : Bool) → (not a || (not b || false)) ≡ false → (a ≡ true) × (b ≡ true)
-two_given a b e = grind arith
-
-three_given : (a b d : Bool) → (not a || (not b || (not d || false))) ≡ false → (a ≡ true) × ((b ≡ true) × (d ≡ true))
-three_given true b d e = (refl, two_given b d e)
-three_given false b d e = cc
 
 sub_of : Text → Shape
 sub_of name = unwrap_or (find (λ s. bytes_eq s.name name) (built pbaudit).subs) help_shape

@@ -15,7 +15,7 @@ use Rattle.pb_election.specs.declared.refusal.ElectionFault.{ElectionFault}
 use Rattle.pb_election.specs.declared.columns.Columns.{Columns}
 use Rattle.pb_election.specs.declared.keys.Key.{Key}
 use Rattle.pb_election.specs.declared.keys.Key.TheVariants.{Budget, VoteType}
-use Rattle.pb_election.specs.declared.sections.Role.TheVariants.{Header, Inside}
+use Rattle.pb_election.specs.declared.sections.RecordRole.TheVariants.{Header, Inside}
 use Rattle.pb_election.specs.declared.sections.Section.{Section}
 use Rattle.pb_election.specs.declared.sections.Section.TheVariants.{Meta, Projects, Votes}
 use Rattle.pb_election.specs.Names.{is_among}
@@ -320,5 +320,5 @@ text-faultless recs e p (suc k) = by (slice_get recs k) refl
               (nonblank (drop (suc k) recs)) (sym split ∙ p.cut) t)
         ]
 
-pub apart : (recs : List Rec) (e : Instance) (place : ℕ) (f : ElectionFault) → PbText recs e → PbFault recs place f → ⊥
-apart recs e place f p q = let n = text-faultless recs e p place in let h = q.here in cc (n, h)
+pub apart : (recs : List Rec) (e : Instance) (record_number : ℕ) (f : ElectionFault) → PbText recs e → PbFault recs record_number f → ⊥
+apart recs e record_number f p q = let n = text-faultless recs e p record_number in let h = q.here in cc (n, h)

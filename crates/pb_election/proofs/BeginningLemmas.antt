@@ -4,8 +4,8 @@ use Rattle.std.specs.Prelude.{count_by}
 use Rattle.std.proofs.lemmas.List.{length-map}
 use Rattle.std.proofs.Math.Path.{fun_ext}
 use Rattle.pb_records.specs.Records.{Rec}
-use Rattle.pb_election.specs.declared.sections.Role.{Role}
-use Rattle.pb_election.specs.declared.sections.Role.TheVariants.{First, Header, Inside}
+use Rattle.pb_election.specs.declared.sections.RecordRole.{RecordRole}
+use Rattle.pb_election.specs.declared.sections.RecordRole.TheVariants.{First, Header, Inside}
 use Rattle.pb_election.specs.declared.sections.Section.{Section}
 use Rattle.pb_election.specs.declared.sections.Section.TheVariants.{Meta, Projects, Votes}
 use Rattle.pb_election.specs.Markers.{is_marker, marker_of, marks, same_section}
@@ -66,7 +66,7 @@ unfolding role_of
 role-first = refl
 
 -- what is seen, by what is found of each section
-seen-found : (recs : List Rec) (role : Role) (a b c : Part) (A B C : List Rec) → role_of recs ≡ role
+seen-found : (recs : List Rec) (role : RecordRole) (a b c : Part) (A B C : List Rec) → role_of recs ≡ role
     → found Meta recs ≡ A → found Projects recs ≡ B → found Votes recs ≡ C
     → rest_of A ≡ a.rows → first_of B ≡ b.header → rest_of B ≡ b.rows → first_of C ≡ c.header → rest_of C ≡ c.rows
     → before_of recs ≡ before_next (so_far_in role a b c)

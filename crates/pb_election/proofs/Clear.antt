@@ -8,7 +8,7 @@ use Rattle.pb_money.proofs.Laws.{money-is}
 use Rattle.pb_records.specs.Records.{Field, Rec}
 use Rattle.pb_election.specs.Instance.{most_approvals, most_projects, most_voters}
 use Rattle.pb_election.specs.declared.keys.Key.TheVariants.{Budget, VoteType}
-use Rattle.pb_election.specs.declared.sections.Role.TheVariants.{First, Header, Inside}
+use Rattle.pb_election.specs.declared.sections.RecordRole.TheVariants.{First, Header, Inside}
 use Rattle.pb_election.specs.declared.sections.Section.{Section}
 use Rattle.pb_election.specs.declared.sections.Section.TheVariants.{Meta, Projects, Votes}
 use Rattle.pb_election.specs.Names.{is_among}

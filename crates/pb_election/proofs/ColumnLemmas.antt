@@ -1,5 +1,5 @@
 -- Where columns of a name stand, and how many there are.
-use Rattle.std.proofs.Common.{◌≡◌, ◌≤◌, ◌∙◌, ◌+◌, ◌-◌, ℕ, zero, suc, [], ◌∷◌, refl, sym, ap, arith, add-one, inl, inr, Bool, true, false, Some, None, drop}
+use Rattle.std.proofs.Common.{◌≡◌, ◌≤◌, ◌∙◌, ◌+◌, ◌-◌, ℕ, suc, [], ◌∷◌, refl, sym, ap, arith, add-one, inl, inr, Bool, true, false, Some, None, drop}
 use Rattle.std.specs.Prelude.{◌==◌, count_by, if◌then◌else◌, is_none, is_some, nat_lt}
 use Rattle.std.specs.List.{position_from}
 use Rattle.std.proofs.lemmas.Bool.{cases_Bool}
@@ -7,18 +7,12 @@ use Rattle.std.proofs.lemmas.Bool.Decides.{nat_tests}
 use Rattle.std.proofs.lemmas.List.Sums.{sum_by-append}
 use Rattle.csv.specs.Records.{field_at}
 use Rattle.pb_records.specs.Records.{Field, Rec}
-use Rattle.pb_records.proofs.CellLemmas.{field-none}
+use Rattle.pb_records.proofs.Csv.{drop-at, field-none}
 
 count-cons : (p : Field → Bool) (x : Field) (xs : Rec) → count_by p (x ∷ xs) ≡ count_by p (x ∷ []) + count_by p xs
 count-cons p x xs = sum_by-append (λ y. if p y then 1 else 0) (x ∷ []) xs
 
 -- the field at the place is the column, or the search goes on behind it
-drop-at : (fs : Rec) (i : ℕ) (f : Field) → field_at fs i ≡ Some f → drop i fs ≡ f ∷ drop (suc i) fs
-unfolding field_at
-drop-at [] i f e = cc e
-drop-at (x ∷ xs) zero f e = let s : x ≡ f = cc e in rw s refl
-drop-at (x ∷ xs) (suc i) f e = drop-at xs i f e
-
 pub column-here : (p : Field → Bool) (fs : Rec) (i : ℕ) (f : Field) → field_at fs i ≡ Some f → p f ≡ true
     → position_from p i (drop i fs) ≡ Some i
 column-here p fs i f e h = rw (drop-at fs i f e, h) refl

@@ -6,8 +6,8 @@ use Rattle.std.specs.List.{last_or}
 use Rattle.pb_records.specs.Records.{Rec}
 use Rattle.pb_election.specs.Markers.{is_marker, marker_of}
 use Rattle.pb_election.specs.Outline.{last_marked, role_behind, role_by}
-use Rattle.pb_election.specs.declared.sections.Role.{Role}
-use Rattle.pb_election.specs.declared.sections.Role.TheVariants.{Header, Inside}
+use Rattle.pb_election.specs.declared.sections.RecordRole.{RecordRole}
+use Rattle.pb_election.specs.declared.sections.RecordRole.TheVariants.{Header, Inside}
 use Rattle.pb_election.specs.declared.sections.Section.{Section}
 
 last-append : {A : Type 0} (o : Option A) (xs : List A) (x : A) → last_or o (xs ++ x ∷ []) ≡ Some x
@@ -30,7 +30,7 @@ marked-append (x ∷ xs) r =
     rw (marked-append xs r) (or-assoc (marker_of r) (last_marked xs) (marker_of x))
 
 -- the role behind a record that marks a section or none, where that of the record was another
-abbrev pub next_by : Option Section → Role → Role
+abbrev pub next_by : Option Section → RecordRole → RecordRole
 next_by (Some s) role = Header s
 next_by None (Header s) = Inside s
 next_by None role = role

@@ -4,7 +4,7 @@ use Rattle.std.specs.Prelude.{count_by, slice_get, if◌then◌else◌}
 use Rattle.std.specs.List.{last_or}
 use Rattle.std.proofs.lemmas.List.Sums.{sum_by-append}
 use Rattle.pb_records.specs.Records.{Rec}
-use Rattle.pb_election.specs.declared.sections.Role.TheVariants.{Header, Inside}
+use Rattle.pb_election.specs.declared.sections.RecordRole.TheVariants.{Header, Inside}
 use Rattle.pb_election.specs.declared.sections.Section.{Section}
 use Rattle.pb_election.specs.Markers.{is_marker, marker_of}
 use Rattle.pb_election.specs.Faults.{role_after, role_of, section_of}

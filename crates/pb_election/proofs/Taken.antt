@@ -7,7 +7,7 @@ use Rattle.std.specs.Option.{option_map_or}
 use Rattle.std.proofs.lemmas.Bool.{cases_Bool, or_parts, not-false}
 use Rattle.pb_records.specs.Records.{Field, Rec}
 use Rattle.pb_election.specs.declared.refusal.ElectionFault.{ElectionFault}
-use Rattle.pb_election.specs.declared.sections.Role.TheVariants.{First, Header, Inside}
+use Rattle.pb_election.specs.declared.sections.RecordRole.TheVariants.{First, Header, Inside}
 use Rattle.pb_election.specs.declared.sections.Section.{Section}
 use Rattle.pb_election.specs.declared.sections.Section.TheVariants.{Meta, Projects, Votes}
 use Rattle.pb_election.specs.Names.{is_among}

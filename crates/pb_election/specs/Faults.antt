@@ -1,4 +1,4 @@
--- Why records are not the text of an election: the faults, and the place at which each stands. They are the faults of
+-- Why records are not the text of an election: the faults, and the record at which each stands. They are the faults of
 -- Pabulib's .pb files, in the profile that docs/FORMATS.md describes, with its numbers and names.
 use Rattle.std.specs.Prelude.{◌+◌, ◌==◌, ◌&&◌, ◌||◌, not, nat_lt, if◌then◌else◌, Bool, true, false, ℕ, List, [], ◌∷◌, length, find, count_by, Option, Some, None, is_ok, codes}
 use Rattle.std.specs.List.{last_or, list_any}
@@ -17,41 +17,41 @@ use Rattle.pb_election.specs.declared.refusal.Refusal.{Refusal}
 use Rattle.pb_election.specs.declared.columns.Columns.{Columns}
 use Rattle.pb_election.specs.declared.keys.Key.{Key}
 use Rattle.pb_election.specs.declared.keys.Key.TheVariants.{Budget, VoteType}
-use Rattle.pb_election.specs.declared.sections.Role.{Role}
-use Rattle.pb_election.specs.declared.sections.Role.TheVariants.{First, Header, Inside}
+use Rattle.pb_election.specs.declared.sections.RecordRole.{RecordRole}
+use Rattle.pb_election.specs.declared.sections.RecordRole.TheVariants.{First, Header, Inside}
 use Rattle.pb_election.specs.declared.sections.Section.{Section}
 use Rattle.pb_election.specs.declared.sections.Section.TheVariants.{Meta, Projects, Votes}
 
--- The role of a place depends only on the records before it that are not blank.
+-- The role of a record depends only on the records before it that are not blank.
 
 -- the section to which so many markers lead; none, or more than three, come only behind a fault
 abbrev pub section_of : ℕ → Section
 section_of markers = if markers == 1 then Meta else if markers == 2 then Projects else Votes
 
--- with no record before it a place is the first; after a marker it is the header's; else it is inside a section
-abbrev pub role_after : Option Rec → ℕ → Role
+-- with no record before it a record is the first; after a marker it is the header's; else it is inside a section
+abbrev pub role_after : Option Rec → ℕ → RecordRole
 role_after None markers = First
 role_after (Some last) markers = if is_marker last then Header (section_of markers) else Inside (section_of markers)
 
-unfoldable pub role_of : List Rec → Role
+unfoldable pub role_of : List Rec → RecordRole
 role_of before = role_after (last_or None before) (count_by is_marker before)
 
-abbrev pub is_first : Role → Bool
+abbrev pub is_first : RecordRole → Bool
 is_first First = true
 is_first (Header s) = false
 is_first (Inside s) = false
 
-abbrev pub is_header : Role → Bool
+abbrev pub is_header : RecordRole → Bool
 is_header First = false
 is_header (Header s) = true
 is_header (Inside s) = false
 
-abbrev pub is_inside : Section → Role → Bool
+abbrev pub is_inside : Section → RecordRole → Bool
 is_inside s First = false
 is_inside s (Header t) = false
 is_inside s (Inside t) = same_section s t
 
--- What stands before a place in each section.
+-- What stands before a record in each section.
 
 -- the records behind the marker of a section
 unfoldable pub behind_marker : Section → List Rec → List Rec
@@ -78,9 +78,9 @@ header_of s before = first_of (up_to_marker (behind_marker s before))
 abbrev pub rows_of : Section → List Rec → List Rec
 rows_of s before = rest_of (up_to_marker (behind_marker s before))
 
--- all that the faults at a place depend on, of the records before it
+-- all that the faults at a record depend on, of the records before it
 pub record Before : Type 0 where
-  pub role : Role
+  pub role : RecordRole
   pub has_stood : Key → Bool  -- whether an earlier row of META has the key
   pub columns : Columns
   pub ids : List Field
@@ -106,11 +106,11 @@ before_of before =
 -- The faults at a record.
 
 -- the record is a row of this section
-abbrev pub is_row : Section → Role → Rec → Bool
+abbrev pub is_row : Section → RecordRole → Rec → Bool
 is_row s role r = is_inside s role && not (is_marker r)
 
 -- a marker among the rows of a section that is not the next one's
-abbrev pub is_unexpected : Role → Rec → Bool
+abbrev pub is_unexpected : RecordRole → Rec → Bool
 is_unexpected First r = false
 is_unexpected (Header s) r = false
 is_unexpected (Inside Meta) r = is_marker r && not (marks Projects r)
@@ -122,12 +122,12 @@ is_no_money text = not (is_ok (money_of text))
 
 -- a header without a needed column, and one in which a read column stands twice (a marker in its place is NoHeader,
 -- which comes before)
-abbrev pub misses_column : Role → Rec → Bool
+abbrev pub misses_column : RecordRole → Rec → Bool
 misses_column First r = false
 misses_column (Header s) r = list_any (λ name. occurrences name r == 0) (needed_columns s)
 misses_column (Inside s) r = false
 
-abbrev pub repeats_column : Role → Rec → Bool
+abbrev pub repeats_column : RecordRole → Rec → Bool
 repeats_column First r = false
 repeats_column (Header s) r = list_any (λ name. nat_lt 1 (occurrences name r)) (read_columns s)
 repeats_column (Inside s) r = false
@@ -170,7 +170,7 @@ stands_at_end b fault.NoHeader = is_header b.role
 stands_at_end b fault.MissingSection = is_inside Meta b.role || is_inside Projects b.role
 stands_at_end b _ = false
 
--- the faults that can stand at a place, in the order of their numbers, from 1
+-- the faults that can stand at a record, in the order of their numbers, from 1
 abbrev pub in_order : List ElectionFault
 in_order =
     fault.NotUtf8 ∷ fault.NoMeta ∷ fault.NoHeader ∷ fault.MissingSection ∷ fault.UnexpectedSection ∷ fault.MissingKey
@@ -189,20 +189,20 @@ unfoldable pub election_form : Form ElectionFault
 election_form before (Some r) = lowest_fault (before_of before) r
 election_form before None = lowest_fault_at_end (before_of before)
 
--- the records are refused at this place for this fault: it has the lowest number there, and no fault stands before
+-- the records are refused at this record for this fault: it has the lowest number there, and no fault stands before
 abbrev pub PbFault : List Rec → ℕ → ElectionFault → Type 0
-PbFault recs place f = IsFirstFault election_form recs place f
+PbFault recs record_number f = IsFirstFault election_form recs record_number f
 
 -- the bytes of a file are refused so
 abbrev pub Refuses : List ℕ → Refusal → Type 0
-Refuses bytes r = PbFault (election_records bytes) r.place r.fault
+Refuses bytes r = PbFault (election_records bytes) r.record_number r.fault
 
 -- the two refusals that no record causes: memory wanted, and an outcome of an election that states none
 abbrev pub no_memory : Refusal
-no_memory = record { fault = fault.Memory; place = 0 }
+no_memory = record { fault = fault.Memory; record_number = 0 }
 
 abbrev pub no_outcome : Refusal
-no_outcome = record { fault = fault.NoOutcome; place = 0 }
+no_outcome = record { fault = fault.NoOutcome; record_number = 0 }
 
 -- the numbers and the names that faults are printed with
 abbrev pub fault_number : ElectionFault → ℕ

@@ -11,7 +11,7 @@ use crate::election_draft::ElectionDraft;
 use crate::ids::Ids;
 use crate::{ElectionFault, Refusal};
 use pb_money::Money;
-use pb_records::{FaultAt, Runs, Stop, take_all};
+use pb_records::{FaultAt, RaggedArray, Stop, take_all};
 use std::alloc::Global;
 use std::marker::Model;
 
@@ -28,7 +28,7 @@ pub struct Election {
     pub(crate) declared_projects: Option<u64>,
     pub(crate) declared_votes: Option<u64>,
     pub(crate) unused: UnusedColumns,
-    pub(crate) ballots: Runs<u32>,
+    pub(crate) ballots: RaggedArray<u32>,
 }
 
 impl Model for Election {
@@ -60,10 +60,13 @@ impl Election {
         let mut draft = ElectionDraft::new(alloc)?;
         match take_all(alloc, bytes, b';', &(), &mut draft) {
             Ok(()) => Ok(draft.into_election()),
-            Err(Stop::Fault(FaultAt { fault, place })) => Err(Refusal { fault, place }),
+            Err(Stop::Fault(at)) => Err(Refusal {
+                fault: at.fault,
+                record_number: at.record_number,
+            }),
             Err(Stop::Memory) => Err(Refusal {
                 fault: ElectionFault::Memory,
-                place: 0,
+                record_number: 0,
             }),
         }
     }

@@ -20,11 +20,11 @@ use crate::ids::{Ids, is_id};
 use crate::keys::{Key, Keys, count_in, is_approval, key_in};
 use crate::markers::marker_of;
 use crate::refusal::ElectionFault;
-use crate::sections::{Role, Section};
+use crate::sections::{RecordRole, Section};
 use crate::votes::ballot_in;
 use csv::StringRecord;
 use pb_money::Money;
-use pb_records::{Draft, Runs, Stop, cell};
+use pb_records::{Draft, RaggedArray, Stop, cell};
 use std::alloc::{AllocError, Global};
 use std::marker::Model;
 
@@ -61,7 +61,7 @@ pub(crate) struct ProjectRows {
 pub(crate) struct VoteRows {
     pub column: Option<usize>,
     pub unused: UnusedColumns,
-    pub ballots: Runs<u32>,
+    pub ballots: RaggedArray<u32>,
     // The ballot of the row at hand.
     pub ballot: Vec<u32>,
 }
@@ -70,7 +70,7 @@ pub(crate) struct VoteRows {
 #[derive(Drop)]
 pub(crate) struct ElectionDraft {
     alloc: Global,
-    role: Role,
+    role: RecordRole,
     pub meta: MetaRows,
     pub projects: ProjectRows,
     pub votes: VoteRows,
@@ -111,7 +111,7 @@ impl ElectionDraft {
     {
         Ok(ElectionDraft {
             alloc,
-            role: Role::First,
+            role: RecordRole::First,
             meta: MetaRows {
                 keys: Keys {
                     budget: false,
@@ -137,7 +137,7 @@ impl ElectionDraft {
             votes: VoteRows {
                 column: None,
                 unused: UnusedColumns::none(),
-                ballots: Runs::new(alloc)?,
+                ballots: RaggedArray::new(alloc)?,
                 ballot: Vec::new(alloc),
             },
         })
@@ -149,46 +149,46 @@ impl ElectionDraft {
         ensures { Steps result self.old self.new (fields_of row.now) }
     {
         match self.role {
-            Role::First => self.take_first(row),
-            Role::Header(Section::Meta) => self.take_meta_header(row),
-            Role::Header(Section::Projects) => self.take_project_header(row),
-            Role::Header(Section::Votes) => self.take_vote_header(row),
-            Role::Inside(Section::Meta) => self.take_meta(row),
-            Role::Inside(Section::Projects) => self.take_project(row),
-            Role::Inside(Section::Votes) => self.take_vote(row),
+            RecordRole::First => self.take_first(row),
+            RecordRole::Header(Section::Meta) => self.take_meta_header(row),
+            RecordRole::Header(Section::Projects) => self.take_project_header(row),
+            RecordRole::Header(Section::Votes) => self.take_vote_header(row),
+            RecordRole::Inside(Section::Meta) => self.take_meta(row),
+            RecordRole::Inside(Section::Projects) => self.take_project(row),
+            RecordRole::Inside(Section::Votes) => self.take_vote(row),
         }
     }
 
     #[tactic(auto, unfolding(crate::specs::Faults::lowest_fault))]
     fn take_first(&mut self, row: &StringRecord) -> Result<(), Stop<ElectionFault>>
         requires text { is_text (fields_of row.now) ≡ true }
-        requires role { self.old.role ≡ Role.First }
+        requires role { self.old.role ≡ RecordRole.First }
         ensures { Steps result self.old self.new (fields_of row.now) }
     {
         if marker_of(row) != Some(Section::Meta) {
             return Err(Stop::Fault(ElectionFault::NoMeta));
         }
-        self.role = Role::Header(Section::Meta);
+        self.role = RecordRole::Header(Section::Meta);
         Ok(())
     }
 
     #[tactic(auto, unfolding(crate::specs::Faults::lowest_fault))]
     fn take_meta_header(&mut self, row: &StringRecord) -> Result<(), Stop<ElectionFault>>
         requires text { is_text (fields_of row.now) ≡ true }
-        requires role { self.old.role ≡ Role.Header Section.Meta }
+        requires role { self.old.role ≡ RecordRole.Header Section.Meta }
         ensures { Steps result self.old self.new (fields_of row.now) }
     {
         if marker_of(row).is_some() {
             return Err(Stop::Fault(ElectionFault::NoHeader));
         }
-        self.role = Role::Inside(Section::Meta);
+        self.role = RecordRole::Inside(Section::Meta);
         Ok(())
     }
 
     #[tactic(auto, unfolding(crate::specs::Faults::lowest_fault))]
     fn take_project_header(&mut self, row: &StringRecord) -> Result<(), Stop<ElectionFault>>
         requires text { is_text (fields_of row.now) ≡ true }
-        requires role { self.old.role ≡ Role.Header Section.Projects }
+        requires role { self.old.role ≡ RecordRole.Header Section.Projects }
         ensures { Steps result self.old self.new (fields_of row.now) }
     {
         if marker_of(row).is_some() {
@@ -203,14 +203,14 @@ impl ElectionDraft {
         let columns = columns_of(row);
         self.projects.columns = columns;
         self.projects.selected = columns.selected.map(|_| Vec::new(self.alloc));
-        self.role = Role::Inside(Section::Projects);
+        self.role = RecordRole::Inside(Section::Projects);
         Ok(())
     }
 
     #[tactic(auto, unfolding(crate::specs::Faults::lowest_fault))]
     fn take_vote_header(&mut self, row: &StringRecord) -> Result<(), Stop<ElectionFault>>
         requires text { is_text (fields_of row.now) ≡ true }
-        requires role { self.old.role ≡ Role.Header Section.Votes }
+        requires role { self.old.role ≡ RecordRole.Header Section.Votes }
         ensures { Steps result self.old self.new (fields_of row.now) }
     {
         if marker_of(row).is_some() {
@@ -224,14 +224,14 @@ impl ElectionDraft {
         }
         self.votes.column = vote_column(row);
         self.votes.unused = unused_columns_of(row);
-        self.role = Role::Inside(Section::Votes);
+        self.role = RecordRole::Inside(Section::Votes);
         Ok(())
     }
 
     #[tactic(auto, unfolding(crate::specs::Faults::lowest_fault))]
     fn take_meta(&mut self, row: &StringRecord) -> Result<(), Stop<ElectionFault>>
         requires text { is_text (fields_of row.now) ≡ true }
-        requires role { self.old.role ≡ Role.Inside Section.Meta }
+        requires role { self.old.role ≡ RecordRole.Inside Section.Meta }
         ensures { Steps result self.old self.new (fields_of row.now) }
     {
         if let Some(section) = marker_of(row) {
@@ -241,7 +241,7 @@ impl ElectionDraft {
             if !(self.meta.keys.budget && self.meta.keys.vote_type) {
                 return Err(Stop::Fault(ElectionFault::MissingKey));
             }
-            self.role = Role::Header(Section::Projects);
+            self.role = RecordRole::Header(Section::Projects);
             return Ok(());
         }
         match key_in(row) {
@@ -254,7 +254,7 @@ impl ElectionDraft {
     #[tactic(auto, unfolding(crate::specs::Faults::lowest_fault))]
     fn take_key(&mut self, key: Key, row: &StringRecord) -> Result<(), Stop<ElectionFault>>
         requires text { is_text (fields_of row.now) ≡ true }
-        requires role { self.old.role ≡ Role.Inside Section.Meta }
+        requires role { self.old.role ≡ RecordRole.Inside Section.Meta }
         requires row { marker_of (fields_of row.now) ≡ None }
         requires key { rows.key_in (fields_of row.now) ≡ Some key }
         ensures { Steps result self.old self.new (fields_of row.now) }
@@ -295,14 +295,14 @@ impl ElectionDraft {
     #[tactic(auto, unfolding(crate::specs::Faults::lowest_fault))]
     fn take_project(&mut self, row: &StringRecord) -> Result<(), Stop<ElectionFault>>
         requires text { is_text (fields_of row.now) ≡ true }
-        requires role { self.old.role ≡ Role.Inside Section.Projects }
+        requires role { self.old.role ≡ RecordRole.Inside Section.Projects }
         ensures { Steps result self.old self.new (fields_of row.now) }
     {
         if let Some(section) = marker_of(row) {
             if section != Section::Votes {
                 return Err(Stop::Fault(ElectionFault::UnexpectedSection));
             }
-            self.role = Role::Header(Section::Votes);
+            self.role = RecordRole::Header(Section::Votes);
             return Ok(());
         }
         let Ok(cost) = Money::read(field_in(self.projects.columns.cost, row).as_bytes()) else {
@@ -328,7 +328,7 @@ impl ElectionDraft {
     #[tactic(auto, unfolding(crate::specs::Faults::lowest_fault, crate::specs::Rows::is_known))]
     fn take_vote(&mut self, row: &StringRecord) -> Result<(), Stop<ElectionFault>>
         requires text { is_text (fields_of row.now) ≡ true }
-        requires role { self.old.role ≡ Role.Inside Section.Votes }
+        requires role { self.old.role ≡ RecordRole.Inside Section.Votes }
         ensures { Steps result self.old self.new (fields_of row.now) }
     {
         if marker_of(row).is_some() {
@@ -359,10 +359,10 @@ impl ElectionDraft {
         ensures { result ≡ lowest_fault_at_end (before_next self.now) }
     {
         match self.role {
-            Role::First => Some(ElectionFault::NoMeta),
-            Role::Header(_) => Some(ElectionFault::NoHeader),
-            Role::Inside(Section::Votes) => None,
-            Role::Inside(_) => Some(ElectionFault::MissingSection),
+            RecordRole::First => Some(ElectionFault::NoMeta),
+            RecordRole::Header(_) => Some(ElectionFault::NoHeader),
+            RecordRole::Inside(Section::Votes) => None,
+            RecordRole::Inside(_) => Some(ElectionFault::MissingSection),
         }
     }
 

@@ -42,7 +42,7 @@ impl Outcome {
         let Some(selected) = election.selected() else {
             return Err(Refusal {
                 fault: ElectionFault::NoOutcome,
-                place: 0,
+                record_number: 0,
             });
         };
         let marks = Vec::from_slice(alloc, selected)?;

@@ -5,7 +5,7 @@ ghost use Rattle.pb_records.specs.Records.{Rec};
 ghost use Rattle.pb_election.specs.Outline.{kind_of, role_behind};
 
 use crate::markers::marker_of;
-use crate::sections::{Role, Section};
+use crate::sections::{RecordRole, Section};
 use csv::StringRecord;
 use std::marker::Model;
 
@@ -35,13 +35,13 @@ pub enum RecordKind {
 /// It goes by the markers alone, in whatever order they come, so it serves for a file that is refused as well.
 #[derive(Drop)]
 pub struct Outline {
-    role: Role,
+    role: RecordRole,
 }
 
 impl Model for Outline {
-    ghost use Rattle.pb_election.specs.declared.sections.Role.{Role};
+    ghost use Rattle.pb_election.specs.declared.sections.RecordRole.{RecordRole};
 
-    ghost Value = { Role };
+    ghost Value = { RecordRole };
 
     ghost view = { λ outline. outline.role };
 }
@@ -52,7 +52,9 @@ impl Outline {
     pub fn new() -> Outline
         ensures { result ≡ role_behind [] }
     {
-        Outline { role: Role::First }
+        Outline {
+            role: RecordRole::First,
+        }
     }
 
     /// Goes behind one more record, which isn't blank, and tells what it is.
@@ -63,15 +65,15 @@ impl Outline {
     {
         match (marker_of(row), self.role) {
             (Some(section), _) => {
-                self.role = Role::Header(section);
+                self.role = RecordRole::Header(section);
                 RecordKind::Marker(section)
             }
-            (None, Role::Header(section)) => {
-                self.role = Role::Inside(section);
+            (None, RecordRole::Header(section)) => {
+                self.role = RecordRole::Inside(section);
                 RecordKind::Header(section)
             }
-            (None, Role::Inside(section)) => RecordKind::Row(section),
-            (None, Role::First) => RecordKind::Stray,
+            (None, RecordRole::Inside(section)) => RecordKind::Row(section),
+            (None, RecordRole::First) => RecordKind::Stray,
         }
     }
 }

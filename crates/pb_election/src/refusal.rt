@@ -48,11 +48,11 @@ pub enum ElectionFault {
 /// Why a file is refused as an election, and where.
 #[derive(Clone, Copy, Debug, PartialEq, Eq)]
 pub struct Refusal {
-    /// Why. Of several faults at one place this is the first in the order of `ElectionFault`.
+    /// Why. Of several faults at one record this is the first in the order of `ElectionFault`.
     pub fault: ElectionFault,
     /// The record at which the fault stands. Records are numbered from 1, blank ones included, and the end of the file
     /// is one more than their number. 0 for `Memory` and `NoOutcome`.
-    pub place: u64,
+    pub record_number: u64,
 }
 
 impl Refusal {
@@ -113,7 +113,7 @@ impl From<AllocError> for Refusal {
     fn from(_error: AllocError) -> Refusal {
         Refusal {
             fault: ElectionFault::Memory,
-            place: 0,
+            record_number: 0,
         }
     }
 }

@@ -1,12 +1,11 @@
 -- What is said of groups behind the table of a yes to prices.
-use Rattle.std.specs.Prelude.{◌==◌, ◌*◌, ◌^◌, if◌then◌else◌, Bool, ℕ, List, [], ◌∷◌, ◌++◌, Option, Some, None, codes, decimal}
+use Rattle.std.specs.Prelude.{◌*◌, ◌^◌, ℕ, List, [], ◌∷◌, ◌++◌, Option, Some, None, codes, decimal}
 use Rattle.pb_election.specs.Instance.{Instance, cost_of, id_of, voters}
 use Rattle.pb_price.specs.declared.OnGroups.{OnGroups}
 use Rattle.pb_price.specs.declared.OnGroups.TheVariants.{Strict, Weak, Little}
 use Rattle.pb_records.specs.Records.{Text}
 use Rattle.pb_explain.specs.Amounts.{amount}
-use Rattle.pb_explain.specs.NearestGroup.{nearest_group}
-use Rattle.pb_explain.specs.declared.nearest.NearestGroup.{NearestGroup}
+use Rattle.pb_price.specs.declared.nearest.NearestGroup.{NearestGroup}
 
 -- Little is said where all voter budgets together are less than the limit.
 abbrev pub not_shown : Text
@@ -47,16 +46,10 @@ nearest_line e g =
     ++ (share_told g.supporters (10 ^ 6 * voters e) (g.supporters * e.limit)
     ++ costs_told (cost_of e g.project) g.funded_for)
 
--- without voters there are no shares
 abbrev pub nearest_lines : Instance → Option NearestGroup → List Text
 nearest_lines e None = []
-nearest_lines e (Some g) = if voters e == 0 then [] else nearest_line e g ∷ []
+nearest_lines e (Some g) = nearest_line e g ∷ []
 
--- where little is said, there is nothing to come near to
-abbrev pub nearest_told : OnGroups → List Text → List Text
-nearest_told Strict lines = lines
-nearest_told Weak lines = lines
-nearest_told Little lines = []
-
-abbrev pub group_lines : Instance → List Bool → OnGroups → List Text
-group_lines e w said = claim said ∷ nearest_told said (nearest_lines e (nearest_group e w))
+-- what is said of groups, and which comes nearest to it
+abbrev pub group_lines : Instance → OnGroups → Option NearestGroup → List Text
+group_lines e said nearest = claim said ∷ nearest_lines e nearest

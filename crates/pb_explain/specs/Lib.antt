@@ -3,8 +3,6 @@ pub mod Rows
 pub mod PriceWords
 pub mod PriceTable
 pub mod ViolationTable
-pub mod NearestGroup
-pub mod Reached
 pub mod GroupLines
 pub mod RefutationTable
 pub mod MarginTable

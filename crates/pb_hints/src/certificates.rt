@@ -1,6 +1,5 @@
 //! Sentences on certificates and outcome files that are refused.
 use crate::FileKind;
-use crate::excerpt::push_quoted;
 use crate::lookup::{Lookup, find_project, find_voter};
 use crate::oddity::Oddity;
 use crate::remark::Remark;
@@ -47,33 +46,40 @@ impl Scene<'_> {
         }
         match fault {
             CertFault::NotUtf8 => self.not_utf8(),
-            CertFault::BadHead => self.with_line(&format!(in self.alloc;
-                "expected the record {head}, but found "
-            )?),
+            CertFault::BadHead => {
+                let line = self.quoted_line()?;
+                format!(in self.alloc; "expected the record {head}, but found {line}")
+            }
             CertFault::BadRow => {
-                let row = self.kind.row();
-                self.with_line(&format!(in self.alloc; "expected a row {row}, but found ")?)
+                let (row, line) = (self.kind.row(), self.quoted_line()?);
+                format!(in self.alloc; "expected a row {row}, but found {line}")
             }
             CertFault::BadNumber => self.bad_number(),
             CertFault::UnknownVoter => self.unknown_voter(),
             CertFault::UnknownProject => self.with("no project has the id ", self.field(1)),
             CertFault::OutOfOrder => {
-                let mut sentence = self.with("voter ", self.voter())?;
-                sentence.push_str(" comes after a higher one; rows have to be sorted by voter")?;
-                Ok(sentence)
+                let voter = self.quoted(self.voter())?;
+                format!(in self.alloc;
+                    "voter {voter} comes after a higher one; rows have to be sorted by voter"
+                )
             }
-            CertFault::Repeated => {
-                let mut words = self.text("project ")?;
-                if self.kind == FileKind::Prices {
-                    words = self.with("voter ", self.voter())?;
-                    words.push_str(" with project ")?;
-                } else if self.field(0) == "voter" {
-                    words = self.text("voter ")?;
-                }
-                self.duplicate(&words, self.field(1), self.first_like()?)
-            }
+            CertFault::Repeated => self.repeated(),
             CertFault::TooMany | CertFault::Memory => self.text(general(fault)),
         }
+    }
+
+    fn repeated(&self) -> Result<String, AllocError> {
+        let first = self.first_like()?;
+        if self.kind == FileKind::Prices {
+            let voter = self.quoted(self.voter())?;
+            let words = format!(in self.alloc; "voter {voter} with project ")?;
+            return self.duplicate(&words, self.field(1), first);
+        }
+        let words = match self.field(0) {
+            "voter" => "voter ",
+            _ => "project ",
+        };
+        self.duplicate(words, self.field(1), first)
     }
 
     fn bad_number(&self) -> Result<String, AllocError> {
@@ -122,19 +128,19 @@ impl Scene<'_> {
     }
 
     fn unknown_voter(&self) -> Result<String, AllocError> {
-        let mut sentence = self.with("there is no voter ", self.voter())?;
-        if let Some(election) = self.election {
-            let count = find_voter(self.alloc, election, self.voter())?.rows;
-            write!(sentence, "; the election has {count} voters")?;
-        }
-        Ok(sentence)
+        let sentence = self.with("there is no voter ", self.voter())?;
+        let Some(election) = self.election else {
+            return Ok(sentence);
+        };
+        let count = find_voter(self.alloc, election, self.voter())?.rows;
+        format!(in self.alloc; "{sentence}; the election has {count} voters")
     }
 
     /// Where the first record begins that names the same as this one.
     fn first_like(&self) -> Result<Option<usize>, AllocError> {
         let mut walk = Walk::open(self.alloc, self.file(), self.kind.delimiter())?;
-        for _ in 0..self.place {
-            if !walk.advance_before(self.place)? {
+        for _ in 0..self.record_number {
+            if !walk.advance_before(self.record_number)? {
                 break;
             }
             if self.is_like(walk.row()) {
@@ -185,23 +191,24 @@ impl Scene<'_> {
         if found.row.is_none() {
             return Ok(None);
         }
-        let mut sentence = self.text("projects are named by their project_id; did you mean ")?;
-        push_quoted(&mut sentence, found.id.as_bytes())?;
-        sentence.push_str("?")?;
-        self.remark(&sentence)
+        let id = self.quoted(&found.id)?;
+        self.remark(&format!(in self.alloc;
+            "projects are named by their project_id; did you mean {id}?"
+        )?)
     }
 
     /// That voters are named by their rows, with the row of the one that may be meant.
     fn voter_cause(&self) -> Result<Option<Remark>, AllocError> {
-        let mut sentence = self.text(BY_ROWS)?;
-        if let Some(election) = self.election {
-            if let Some(row) = find_voter(self.alloc, election, self.voter())?.row {
-                sentence.push_str("; the one with voter_id ")?;
-                push_quoted(&mut sentence, self.voter().as_bytes())?;
-                write!(sentence, " is voter {row}")?;
-            }
-        }
-        self.remark(&sentence)
+        let Some(election) = self.election else {
+            return self.remark(BY_ROWS);
+        };
+        let Some(row) = find_voter(self.alloc, election, self.voter())?.row else {
+            return self.remark(BY_ROWS);
+        };
+        let id = self.quoted(self.voter())?;
+        self.remark(&format!(in self.alloc;
+            "{BY_ROWS}; the one with voter_id {id} is voter {row}"
+        )?)
     }
 
     /// Whether the record stands behind the head of a price certificate, or in another file.

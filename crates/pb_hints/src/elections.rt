@@ -57,12 +57,12 @@ impl Scene<'_> {
         match fault {
             ElectionFault::NotUtf8 => self.not_utf8(),
             ElectionFault::NoMeta => {
-                self.with_line("the file doesn't begin with META, but with ")
+                let line = self.quoted_line()?;
+                format!(in self.alloc; "the file doesn't begin with META, but with {line}")
             }
             ElectionFault::NoHeader => {
-                self.with_line(&format!(in self.alloc;
-                    "the header of {section} is missing before "
-                )?)
+                let line = self.quoted_line()?;
+                format!(in self.alloc; "the header of {section} is missing before {line}")
             }
             ElectionFault::UnexpectedSection => self.unexpected_section(),
             ElectionFault::MissingKey => self.text(self.missing_key()),
@@ -76,10 +76,8 @@ impl Scene<'_> {
             ),
             ElectionFault::BadMoney => self.bad_money(),
             ElectionFault::MissingColumn => {
-                let column = self.column(false);
-                self.with_line(&format!(in self.alloc;
-                    "the header of {section} has no column {column}: "
-                )?)
+                let (column, line) = (self.column(false), self.quoted_line()?);
+                format!(in self.alloc; "the header of {section} has no column {column}: {line}")
             }
             ElectionFault::RepeatedColumn => {
                 let column = self.column(true);
@@ -94,9 +92,8 @@ impl Scene<'_> {
                 self.duplicate("the project ", self.id(), first)
             }
             ElectionFault::UnknownProject => {
-                let mut sentence = self.with("the vote names ", self.unknown_name())?;
-                sentence.push_str(", but no project has this id")?;
-                Ok(sentence)
+                let name = self.quoted(self.unknown_name())?;
+                format!(in self.alloc; "the vote names {name}, but no project has this id")
             }
             ElectionFault::TooMany => self.text(self.too_many()),
             ElectionFault::MissingSection | ElectionFault::NoOutcome | ElectionFault::Memory => {
@@ -150,7 +147,8 @@ impl Scene<'_> {
             Err(MoneyFault::TooLarge) => "is more than 10^12",
             _ => "isn't an amount",
         };
-        self.with(&format!(in self.alloc; "the {name} {words}: ")?, amount)
+        let amount = self.quoted(amount)?;
+        format!(in self.alloc; "the {name} {words}: {amount}")
     }
 
     /// The amount of the record: what it is called, and its field.

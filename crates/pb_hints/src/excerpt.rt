@@ -8,9 +8,9 @@ const MOST_SHOWN: usize = 60;
 /// No more bytes than these are looked at: a character has at most four.
 const MOST_BYTES: usize = 4 * (MOST_SHOWN + 1);
 
-/// Words, and behind them an excerpt of some bytes between quotes.
-pub(crate) fn quoted(alloc: Global, words: &str, bytes: &[u8]) -> Result<String, AllocError> {
-    let mut text = String::from_str(alloc, words)?;
+/// An excerpt of some bytes between quotes.
+pub(crate) fn quoted(alloc: Global, bytes: &[u8]) -> Result<String, AllocError> {
+    let mut text = String::new(alloc);
     push_quoted(&mut text, bytes)?;
     Ok(text)
 }

@@ -1,5 +1,4 @@
 //! Records that are read as something else than was meant.
-use crate::excerpt::quoted;
 use csv::StringRecord;
 use pb_election::{Section, column_named, is_named};
 use pb_records::{cell, is_blank_from};

@@ -23,10 +23,8 @@ impl Remark {
     pub fn push(&self, text: &mut String, name: &str) -> Result<(), AllocError> {
         push_shown(text, name)?;
         match self.line {
-            Some(line) => write!(text, ":{line}: ")?,
-            None => text.push_str(": ")?,
+            Some(line) => writeln!(text, ":{line}: {}", self.sentence),
+            None => writeln!(text, ": {}", self.sentence),
         }
-        text.push_str(&self.sentence)?;
-        text.push('\n')
     }
 }

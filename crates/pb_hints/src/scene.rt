@@ -20,7 +20,7 @@ pub(crate) struct Scene<'a> {
     pub alloc: Global,
     pub kind: FileKind,
     /// The place of the record, from 1.
-    pub place: u64,
+    pub record_number: u64,
     /// What stands before.
     pub story: Story,
     /// The election beside which the file is read, where its bytes are there.
@@ -34,25 +34,25 @@ impl<'a> Scene<'a> {
     pub fn open(
         alloc: Global,
         kind: FileKind,
-        place: u64,
+        record_number: u64,
         file: &'a [u8],
         election: Option<&'a [u8]>,
     ) -> Result<Option<Scene<'a>>, AllocError> {
         let mut walk = Walk::open(alloc, file, kind.delimiter())?;
         let mut story = Story::new(alloc, kind);
-        for _ in 0..place {
-            if !walk.advance_before(place)? {
+        for _ in 0..record_number {
+            if !walk.advance_before(record_number)? {
                 break;
             }
             story.take(walk.row(), walk.start())?;
         }
-        if !walk.is_at(place) {
+        if !walk.is_at(record_number) {
             return Ok(None);
         }
         Ok(Some(Scene {
             alloc,
             kind,
-            place,
+            record_number,
             story,
             election,
             walk,
@@ -99,19 +99,25 @@ impl<'a> Scene<'a> {
 
     /// Words, and behind them a field.
     pub fn with(&self, words: &str, field: &str) -> Result<String, AllocError> {
-        quoted(self.alloc, words, field.as_bytes())
+        let field = self.quoted(field)?;
+        format!(in self.alloc; "{words}{field}")
     }
 
-    /// Words, and behind them the line on which the record begins.
-    pub fn with_line(&self, words: &str) -> Result<String, AllocError> {
-        let line = rest_of_line(self.walk.text, self.walk.start());
-        quoted(self.alloc, words, line)
+    /// A field between quotes.
+    pub fn quoted(&self, field: &str) -> Result<String, AllocError> {
+        quoted(self.alloc, field.as_bytes())
+    }
+
+    /// The line on which the record begins, between quotes.
+    pub fn quoted_line(&self) -> Result<String, AllocError> {
+        quoted(self.alloc, rest_of_line(self.walk.text, self.walk.start()))
     }
 
     /// The sentence on a record that isn't UTF-8.
     pub fn not_utf8(&self) -> Result<String, AllocError> {
         let field = bad_field(self.walk.text, self.walk.start(), self.kind.delimiter());
-        quoted(self.alloc, "the text isn't UTF-8: ", field)
+        let field = quoted(self.alloc, field)?;
+        format!(in self.alloc; "the text isn't UTF-8: {field}")
     }
 
     /// The sentence on a file that ends where this is wanted.
@@ -130,12 +136,12 @@ impl<'a> Scene<'a> {
         field: &str,
         first: Option<usize>,
     ) -> Result<String, AllocError> {
-        let mut sentence = self.with(words, field)?;
-        if let Some(start) = first {
-            let line = self.line_of(start);
-            write!(sentence, " is already on line {line}")?;
-        }
-        Ok(sentence)
+        let sentence = self.with(words, field)?;
+        let Some(start) = first else {
+            return Ok(sentence);
+        };
+        let line = self.line_of(start);
+        format!(in self.alloc; "{sentence} is already on line {line}")
     }
 
     /// The remark on the whole file of these words.

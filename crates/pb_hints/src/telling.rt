@@ -22,13 +22,13 @@ pub fn hint(
     file: Option<&[u8]>,
     election: Option<&[u8]>,
 ) -> Result<Vec<Remark>, AllocError> {
-    let place = fault.place();
+    let record_number = fault.record_number();
     let scene = match file {
-        Some(file) if place > 0 && suits(kind, fault) => {
+        Some(file) if record_number > 0 && suits(kind, fault) => {
             Scene::open(
                 alloc,
-                kind_of(alloc, kind, file, place)?,
-                place,
+                kind_of(alloc, kind, file, record_number)?,
+                record_number,
                 file,
                 election,
             )?
@@ -51,14 +51,19 @@ fn suits(kind: FileKind, fault: InputFault) -> bool {
 }
 
 /// What the file is by its own first record, where it may be a certificate of any kind.
-fn kind_of(alloc: Global, kind: FileKind, file: &[u8], place: u64) -> Result<FileKind, AllocError> {
+fn kind_of(
+    alloc: Global,
+    kind: FileKind,
+    file: &[u8],
+    record_number: u64,
+) -> Result<FileKind, AllocError> {
     if kind != FileKind::Certificate {
         return Ok(kind);
     }
     Ok(match pb_certificate::kind_of(alloc, file)? {
         Kind::Violation => FileKind::Violation,
         Kind::Refutation => FileKind::Refutation,
-        Kind::Prices if place > 1 => FileKind::Prices,
+        Kind::Prices if record_number > 1 => FileKind::Prices,
         Kind::Prices => kind,
     })
 }
@@ -72,9 +77,9 @@ fn without_bytes(alloc: Global, fault: InputFault) -> Result<Vec<Remark>, AllocE
         InputFault::Certificate(refusal) => certificates::general(refusal.fault),
     };
     let mut remarks = Vec::new(alloc);
-    let sentence = match fault.place() {
+    let sentence = match fault.record_number() {
         0 => String::from_str(alloc, words)?,
-        place => format!(in alloc; "record {place}: {words}")?,
+        record_number => format!(in alloc; "record {record_number}: {words}")?,
     };
     remarks.push(Remark {
         line: None,

@@ -12,7 +12,7 @@ pub(crate) struct Walk<'a> {
     pub text: &'a [u8],
     reader: Box<Reader<&'a [u8]>>,
     row: StringRecord,
-    place: u64,
+    record_number: u64,
     met: Next,
 }
 
@@ -43,15 +43,15 @@ impl<'a> Walk<'a> {
             text,
             reader: Box::new(alloc, reader)?,
             row: StringRecord::new(alloc),
-            place: 0,
+            record_number: 0,
             met: Next::End,
         })
     }
 
     /// Goes behind the next record that isn't blank, and tells whether it is one before this place.
-    pub fn advance_before(&mut self, place: u64) -> Result<bool, AllocError> {
+    pub fn advance_before(&mut self, record_number: u64) -> Result<bool, AllocError> {
         self.met = self.advance()?;
-        Ok(self.met == Next::Record && self.place < place)
+        Ok(self.met == Next::Record && self.record_number < record_number)
     }
 
     fn advance(&mut self) -> Result<Next, AllocError> {
@@ -59,7 +59,7 @@ impl<'a> Walk<'a> {
         for _ in 0..=self.text.len() {
             let next = self.read()?;
             if next != Next::End {
-                self.place = self.place.saturating_add(1);
+                self.record_number = self.record_number.saturating_add(1);
             }
             if next != Next::Record || !is_blank(&self.row) {
                 return Ok(next);
@@ -81,10 +81,10 @@ impl<'a> Walk<'a> {
 
     /// Whether what was met last is at this place: a record, or the end of the file, which has the place after the last
     /// record.
-    pub fn is_at(&self, place: u64) -> bool {
+    pub fn is_at(&self, record_number: u64) -> bool {
         match self.met {
-            Next::End => self.place.checked_add(1) == Some(place),
-            Next::Record | Next::NotText => self.place == place,
+            Next::End => self.record_number.checked_add(1) == Some(record_number),
+            Next::Record | Next::NotText => self.record_number == record_number,
         }
     }
 

@@ -34,11 +34,11 @@ fault_name fault.TooLong = codes "TooLong"
 fault_name (fault.Election r) = elections.fault_name r.fault
 fault_name (fault.Certificate r) = certificates.fault_name r.fault
 
-abbrev pub fault_place : InputFault → ℕ
-fault_place fault.Unread = 0
-fault_place fault.TooLong = 0
-fault_place (fault.Election r) = r.place
-fault_place (fault.Certificate r) = r.place
+abbrev pub fault_record : InputFault → ℕ
+fault_record fault.Unread = 0
+fault_record fault.TooLong = 0
+fault_record (fault.Election r) = r.record_number
+fault_record (fault.Certificate r) = r.record_number
 
 -- whether a fault is out of memory, and not one of the input
 abbrev pub is_election_memory : ElectionFault → Bool

@@ -2,7 +2,7 @@
 #![tactic(auto)]
 
 ghost use Rattle.std.specs.Prelude.{◌≡◌};
-ghost use Rattle.pb_input.specs.Faults.{fault_name, fault_number, fault_place, name_of};
+ghost use Rattle.pb_input.specs.Faults.{fault_name, fault_number, fault_record, name_of};
 ghost use Rattle.pb_input.specs.Faults as spec;
 
 use pb_certificate::{CertFault, CertRefusal};
@@ -86,13 +86,13 @@ impl InputFault {
     }
 
     /// The record at which the fault stands, from 1, or 0 where it stands at none.
-    pub fn place(&self) -> u64
-        ensures { result ≡ fault_place self.now }
+    pub fn record_number(&self) -> u64
+        ensures { result ≡ fault_record self.now }
     {
         match self {
             InputFault::Unread | InputFault::TooLong => 0,
-            InputFault::Election(refusal) => refusal.place,
-            InputFault::Certificate(refusal) => refusal.place,
+            InputFault::Election(refusal) => refusal.record_number,
+            InputFault::Certificate(refusal) => refusal.record_number,
         }
     }
 

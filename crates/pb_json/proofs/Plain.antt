@@ -28,11 +28,13 @@ use Rattle.pb_price.specs.declared.Findings.{Findings}
 use Rattle.pb_price.specs.declared.Mode.{Mode}
 use Rattle.pb_price.specs.declared.PaymentFinding.{PaymentFinding}
 use Rattle.pb_price.specs.declared.Verdict.{Verdict}
+use Rattle.pb_price.specs.declared.nearest.NearestGroup.{NearestGroup}
 use Rattle.pb_price.specs.declared.Verdict.TheVariants as verdict
 use Rattle.pb_json.specs.Answers.{both_json, refusal_json}
 use Rattle.pb_json.specs.Beside.{beside_json, hint_json, texts_json}
+use Rattle.pb_json.specs.Folders.{entry_json, total_json}
 use Rattle.pb_json.specs.Elections.{column, columns, columns_json, election_json, funded, outcome_json, read_json}
-use Rattle.pb_json.specs.Texts.{IsPlain}
+use Rattle.pb_json.specs.Texts.{IsPlain, most_nested}
 use Rattle.pb_json.specs.Members.{amount, balance, count, list, or_null, text}
 use Rattle.pb_json.specs.Places.{at_both, at_project, failed_json, nowhere, pair_or_null, place_at, place_json, place_or_null, project_json, voter_json}
 use Rattle.pb_json.specs.Groups as groups
@@ -150,10 +152,16 @@ prices-failed-plain : (e : Instance) (v : Verdict) → IsPlain 1 (prices.first_f
 prices-failed-plain e verdict.Supported = leaf 1
 prices-failed-plain e (verdict.Failed f) = failed-plain e (prices.failure_name f) (prices.failure_place f)
 
-pub prices_are_plain : (m : Mode) (e : Instance) (w : List Bool) (v : Verdict) (f : Findings)
-    → IsPlain 4 (prices.prices_json m e w v f)
-prices_are_plain m e w v f =
-    grind (arith, conditions-plain m e f, election-plain e, prices-failed-plain e v, text-plain (prices.groups_said m v f), outcome-plain e w)
+over-plain : (e : Instance) (d : Data) → IsPlain 0 d → IsPlain 1 (groups.over_voters e d)
+over-plain e d h = grind arith
+
+nearest-plain : (e : Instance) (nearest : Option NearestGroup) → IsPlain 2 (or_null (groups.nearest_json e) nearest)
+nearest-plain e nearest = or-null-plain 2 (groups.nearest_json e) nearest (λ g. grind (arith, over-plain e))
+
+pub prices_are_plain : (m : Mode) (e : Instance) (w : List Bool) (v : Verdict) (f : Findings) (n : Option NearestGroup)
+    → IsPlain 4 (prices.prices_json m e w v f n)
+prices_are_plain m e w v f n =
+    grind (arith, conditions-plain m e f, election-plain e, prices-failed-plain e v, text-plain (prices.groups_said m v f), nearest-plain e n, outcome-plain e w)
 
 -- violations
 v1-plain : (f : ViolationFindings) → IsPlain 2 (violations.v1_json f)
@@ -215,9 +223,6 @@ refutation_is_plain e w v f =
     grind (arith, election-plain e, refutation-failed-plain e v, outcome-plain e w, text-plain (refutations.proved v), refutation-tests-plain e f)
 
 -- groups that fall short
-over-plain : (e : Instance) (d : Data) → IsPlain 0 d → IsPlain 1 (groups.over_voters e d)
-over-plain e d h = grind arith
-
 group-plain : (e : Instance) (x : GroupFigures) → IsPlain 2 (groups.group_json e x)
 group-plain e x = grind (arith, over-plain e)
 
@@ -237,6 +242,15 @@ both_are_plain all p v prices-plain violation-plain = grind arith
 pub refusal_is_plain : (r : InputRefusal) → IsPlain 4 (refusal_json r)
 refusal_is_plain r = grind arith
 
+-- the report on a folder
+pub entry_is_plain : (name : Text) (e p v : Data) → IsPlain most_nested e → IsPlain most_nested p → IsPlain most_nested v
+    → IsPlain max_depth (entry_json name e p v)
+entry_is_plain name e p v election-plain prices-plain violation-plain = grind arith
+
+pub total_is_plain : (elections yeses noes refused : ℕ)
+    → IsPlain max_depth (total_json elections yeses noes refused)
+total_is_plain elections yeses noes refused = grind arith
+
 -- what stands beside an answer
 each-text : (texts : List Text) → AllByRecursion (IsPlain 0) (map text texts)
 each-text [] = tt
@@ -255,9 +269,9 @@ beside_is_plain notes refusal line sentences =
     let refused = or-null-plain 4 refusal_json refusal refusal_is_plain in
     grind (arith, hint-plain line sentences, texts-plain notes)
 
--- none nests too deep to be read back
-pub plain_enough : (d : Data) → IsPlain 4 d → IsPlain max_depth d
+-- none nests too deep to stand in another
+pub plain_enough : (d : Data) → IsPlain 4 d → IsPlain most_nested d
 plain_enough d plain = (plain.0, omega (arith, plain.1))
 
-pub both_plain_enough : (d : Data) → IsPlain 5 d → IsPlain max_depth d
+pub both_plain_enough : (d : Data) → IsPlain 5 d → IsPlain most_nested d
 both_plain_enough d plain = (plain.0, omega (arith, plain.1))

@@ -1,7 +1,7 @@
 -- The answer on prices beside a violation certificate, and a refusal.
 use Rattle.std.specs.Prelude.{Bool, [], ◌∷◌, codes}
 use Rattle.serde_json.specs.Data.{Data}
-use Rattle.pb_input.specs.Faults.{fault_name, fault_number, fault_place, name_of}
+use Rattle.pb_input.specs.Faults.{fault_name, fault_number, fault_record, name_of}
 use Rattle.pb_input.specs.declared.InputRefusal.{InputRefusal}
 use Rattle.pb_json.specs.Members.{answer, count, fields, text}
 
@@ -23,6 +23,6 @@ refusal_json r = fields (
     ∷ (codes "kind", text (codes "refusal"))
     ∷ (codes "name", text (fault_name r.fault))
     ∷ (codes "number", count (fault_number r.fault))
-    ∷ (codes "record", count (fault_place r.fault))
+    ∷ (codes "record", count (fault_record r.fault))
     ∷ (codes "version", count 1)
     ∷ [])

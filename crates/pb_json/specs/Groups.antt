@@ -1,10 +1,12 @@
--- The answer on groups that fall short, with the figures of one group. Amounts are in millionths of the currency.
+-- The answer on groups that fall short, with the figures of one group; and the group that comes nearest to what a yes to
+-- prices says. Amounts are in millionths of the currency.
 use Rattle.std.specs.Prelude.{◌*◌, ◌-ℤ◌, Bool, true, false, pos, List, [], ◌∷◌, Option, Some, None, codes}
 use Rattle.serde_json.specs.Data.{Data}
 use Rattle.pb_election.specs.Instance.{Instance, IsProject, cost_of, voters}
 use Rattle.pb_certificate.specs.declared.violations.measure.Measure.{Measure}
 use Rattle.pb_cohesion.specs.Shown.{AreSmall, first_short, shown}
 use Rattle.pb_cohesion.specs.declared.GroupFigures.{GroupFigures}
+use Rattle.pb_price.specs.declared.nearest.NearestGroup.{NearestGroup}
 use Rattle.pb_json.specs.Elections.{election_json, outcome_json}
 use Rattle.pb_json.specs.Members.{amount, answer, balance, count, fields, or_null, text}
 use Rattle.pb_json.specs.Places.{at_project, failed_json, project_json}
@@ -40,6 +42,18 @@ group_json e x = fields (
     ∷ (codes "share", share_json e x)
     ∷ (codes "supporters", count x.supporters)
     ∷ (codes "voters", count x.voters)
+    ∷ [])
+
+-- the supporters of a project who come nearest to what a yes to prices says of groups: what it costs, what was funded for
+-- them, and their share of the limit
+abbrev pub nearest_json : Instance → NearestGroup → Data
+nearest_json e g = fields (
+    (codes "cost", amount (cost_of e g.project))
+    ∷ (codes "funded_for", amount g.funded_for)
+    ∷ (codes "number", count g.project)
+    ∷ (codes "project", project_json e (Some g.project))
+    ∷ (codes "share", over_voters e (amount (g.supporters * e.limit)))
+    ∷ (codes "supporters", count g.supporters)
     ∷ [])
 
 abbrev pub failed_groups : Instance → Option GroupFigures → Data

@@ -1,10 +1,11 @@
 pub mod Members
 pub mod Places
 pub mod Elections
-pub mod Prices
 pub mod Violations
 pub mod Groups
+pub mod Prices
 pub mod Refutations
 pub mod Answers
 pub mod Beside
+pub mod Folders
 pub mod Texts

@@ -15,7 +15,9 @@ use Rattle.pb_price.specs.declared.PaymentFinding.{PaymentFinding}
 use Rattle.pb_price.specs.declared.Verdict.{Verdict}
 use Rattle.pb_price.specs.declared.Verdict.TheVariants as verdict
 use Rattle.pb_records.specs.Records.{Text}
+use Rattle.pb_price.specs.declared.nearest.NearestGroup.{NearestGroup}
 use Rattle.pb_json.specs.Elections.{election_json, outcome_json}
+use Rattle.pb_json.specs.Groups.{nearest_json}
 use Rattle.pb_json.specs.Members.{amount, answer, balance, count, fields, flag, list, or_null, text}
 use Rattle.pb_json.specs.declared.places.At.{At}
 use Rattle.pb_json.specs.declared.places.At.TheVariants.{Voter, Project}
@@ -147,8 +149,8 @@ mode_json m = fields (
     ∷ (codes "stable", flag m.stable)
     ∷ [])
 
-abbrev pub prices_json : Mode → Instance → List Bool → Verdict → Findings → Data
-prices_json m e w v f = fields (
+abbrev pub prices_json : Mode → Instance → List Bool → Verdict → Findings → Option NearestGroup → Data
+prices_json m e w v f nearest = fields (
     (codes "answer", text (answer (is_yes v)))
     ∷ (codes "budgets", amount f.budgets)
     ∷ (codes "conditions", conditions_json m e f)
@@ -159,6 +161,7 @@ prices_json m e w v f = fields (
     ∷ (codes "kind", text (codes "prices"))
     ∷ (codes "limit", amount f.limit)
     ∷ (codes "mode", mode_json m)
+    ∷ (codes "nearest", or_null (nearest_json e) nearest)
     ∷ (codes "outcome", outcome_json e w)
     ∷ (codes "total", amount f.total)
     ∷ (codes "version", count 1)

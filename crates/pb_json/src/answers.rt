@@ -38,7 +38,7 @@ pub fn refusal_json(alloc: Global, refusal: &InputRefusal) -> Result<Value, Allo
         "kind": "refusal",
         "name": refusal.fault.name(),
         "number": refusal.fault.number(),
-        "record": refusal.fault.place(),
+        "record": refusal.fault.record_number(),
         "version": 1u32,
     })
 }

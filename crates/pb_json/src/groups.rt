@@ -1,10 +1,10 @@
 //! The answer on groups that fall short.
 ghost use Rattle.std.specs.Prelude.{◌≡◌, ◌≤◌, ◌*◌, ◌^◌, All, IfOk, IfSome};
 ghost use Rattle.serde_json.specs.View.{view};
-ghost use Rattle.pb_election.specs.Instance.{most_voters};
+ghost use Rattle.pb_election.specs.Instance.{IsProject, most_voters};
 ghost use Rattle.pb_election.specs.Outcome.{OutcomeFits};
 ghost use Rattle.pb_json.specs.Groups as spec;
-ghost use Rattle.pb_json.specs.Members.{or_null};
+ghost use Rattle.pb_json.specs.Members.{amount, or_null};
 
 use crate::elections::{election_json, outcome_json};
 use crate::members::{amount, answer, balance};
@@ -13,6 +13,7 @@ use crate::violations::measure_word;
 use pb_certificate::Measure;
 use pb_cohesion::{GroupFigures, first_short, shown_of};
 use pb_election::{Election, Outcome};
+use pb_price::NearestGroup;
 use serde_json::{Value, json};
 use std::alloc::{AllocError, Global};
 
@@ -141,4 +142,52 @@ fn limits(election: &Election, group: &GroupFigures) -> u128
     ensures small { result ≤ most_voters * 10 ^ 18 }
 {
     u128::from(group.voters) * u128::from(election.limit().millionths())
+}
+
+/// The figures of the unfunded project whose supporters come nearest to what a yes to prices says of groups, or null.
+pub(crate) fn nearest_or_null(
+    alloc: Global,
+    election: &Election,
+    nearest: Option<NearestGroup>,
+) -> Result<Value, AllocError>
+    requires { IfSome nearest (λ g. IsProject election.now g.project) }
+    ensures { IfOk result (λ v. view v ≡ or_null (spec.nearest_json election.now) nearest) }
+{
+    match nearest {
+        Some(group) => nearest_json(alloc, election, group),
+        None => Ok(Value::Null),
+    }
+}
+
+fn nearest_json(
+    alloc: Global,
+    election: &Election,
+    nearest: NearestGroup,
+) -> Result<Value, AllocError>
+    requires { IsProject election.now nearest.project }
+    ensures { IfOk result (λ v. view v ≡ spec.nearest_json election.now nearest) }
+{
+    let cost = u128::from(election.cost(nearest.project).millionths());
+    json!(in alloc; {
+        "cost": amount(alloc, cost)?,
+        "funded_for": amount(alloc, nearest.funded_for)?,
+        "number": nearest.project,
+        "project": project_json(alloc, election, Some(nearest.project))?,
+        "share": nearest_share_json(alloc, election, nearest)?,
+        "supporters": nearest.supporters,
+    })
+}
+
+fn nearest_share_json(
+    alloc: Global,
+    election: &Election,
+    nearest: NearestGroup,
+) -> Result<Value, AllocError>
+    ensures { IfOk result (λ v. view v ≡ spec.over_voters election.now (amount (nearest.supporters * (election.now).limit))) }
+{
+    let limits = u128::from(nearest.supporters) * u128::from(election.limit().millionths());
+    json!(in alloc; {
+        "denominator": election.voters(),
+        "numerator": amount(alloc, limits)?,
+    })
 }

@@ -1,5 +1,6 @@
 //! The answer on prices.
-ghost use Rattle.std.specs.Prelude.{◌≡◌, IfOk, OnOk, option_map};
+ghost use Rattle.std.specs.Prelude.{◌≡◌, IfOk, IfSome, OnOk, option_map};
+ghost use Rattle.pb_election.specs.Instance.{IsProject};
 ghost use Rattle.serde_json.specs.View.{members_view, view};
 ghost use Rattle.pb_election.specs.Outcome.{OutcomeFits};
 ghost use Rattle.pb_json.specs.Members.{with_all};
@@ -7,16 +8,18 @@ ghost use Rattle.pb_json.specs.Prices as spec;
 
 use crate::conditions::conditions_json;
 use crate::elections::{election_json, outcome_json};
+use crate::groups::nearest_or_null;
 use crate::members::{amount, answer, text_or_null};
 use crate::places::{Place, failed_json};
 use pb_election::{Election, Outcome};
-use pb_price::{Failure, Findings, Mode, OnGroups, Verdict};
+use pb_price::{Failure, Findings, Mode, NearestGroup, OnGroups, Verdict};
 use serde_json::{Map, Value, json, put};
 use std::alloc::{AllocError, Global};
 
 /// The answer on prices: the verdict on them in a mode, with what each condition comes to, also those behind the first
-/// that is false and those that the mode leaves out. Where it is a yes, it says what of groups. The verdict and the
-/// findings are to be of this election, and the outcome is to fit it. An error means out of memory.
+/// that is false and those that the mode leaves out. Where it is a yes, it says what of groups, and where it was looked
+/// for also which unfunded project's supporters come nearest to that. The verdict, the findings and the project are to be
+/// of this election, and the outcome is to fit it. An error means out of memory.
 pub fn prices_json(
     alloc: Global,
     mode: Mode,
@@ -24,11 +27,13 @@ pub fn prices_json(
     outcome: &Outcome,
     verdict: Verdict,
     findings: &Findings,
+    nearest: Option<NearestGroup>,
 ) -> Result<Value, AllocError>
     requires outcome { OutcomeFits outcome.now election.now }
     requires verdict { spec.VerdictNamesProject election.now verdict }
     requires findings { spec.FindingsNameProjects election.now findings.now }
-    ensures { IfOk result (λ v. view v ≡ spec.prices_json mode election.now (outcome.now).marks verdict findings.now) }
+    requires nearest { IfSome nearest (λ g. IsProject election.now g.project) }
+    ensures { IfOk result (λ v. view v ≡ spec.prices_json mode election.now (outcome.now).marks verdict findings.now nearest) }
 {
     let mut members = Map::new(alloc);
     put_verdict(alloc, &mut members, election, mode, verdict, findings)?;
@@ -36,6 +41,8 @@ pub fn prices_json(
     put_amounts(alloc, &mut members, findings)?;
     let conditions = conditions_json(alloc, mode, election, findings)?;
     put(&mut members, alloc, "conditions", conditions)?;
+    let nearest = nearest_or_null(alloc, election, nearest)?;
+    put(&mut members, alloc, "nearest", nearest)?;
     Ok(Value::Object(members))
 }
 

@@ -2,6 +2,7 @@
 mod beside;
 mod common;
 mod elections;
+mod folders;
 mod groups;
 mod prices;
 mod violations;

@@ -16,36 +16,36 @@ use Rattle.pb_figures.specs.declared.told.Told.{Told}
 use Rattle.pb_price_parts.specs.Rows.{ListsProjects}
 use Rattle.pb_reply.proofs.Groups.{groups-promise}
 use Rattle.pb_reply.specs.Inputs.{Stated, StatesElection}
-use Rattle.pb_reply.specs.Inside.Taking.{AuditsOutcome, Gives, IfTaken, settled}
+use Rattle.pb_reply.specs.Inside.Taking.{AuditsOutcome, Gives, IfTaken, or_refusal}
 use Rattle.pb_reply.specs.Lines.{groups_line}
 use Rattle.pb_reply.specs.Promises.{GroupsPromise}
 use Rattle.pb_reply.specs.Replies.{Answer, answer_of, refused}
 use Rattle.pb_reply.specs.Turns.{FileTurn, Turn}
 use Rattle.pb_reply.specs.declared.status.Status.{Status}
-use Rattle.pb_reply.specs.declared.stop.Stop.{Stop}
-use Rattle.pb_reply.specs.declared.stop.Stop.TheVariants as stop
+use Rattle.pb_reply.specs.declared.unanswered.Unanswered.{Unanswered}
+use Rattle.pb_reply.specs.declared.unanswered.Unanswered.TheVariants as unanswered
 use Rattle.pb_words.specs.declared.language.Language.{Language}
 use Rattle.pb_page.specs.Groups.{GroupsPageOnOutcome, IsGroupsPage, ReadsGroupsPage, TellsGroups}
 use Rattle.pb_page.specs.Sums.{files_of, sums_of}
 use Rattle.pb_page.specs.Taken.{RendersTold, status_of}
 
-pub groups-ended-at-election : (m : Measure) (l : Language) (election : Turn) (outcome : FileTurn) (why : Stop)
+pub groups-ended-at-election : (m : Measure) (l : Language) (election : Turn) (outcome : FileTurn) (why : Unanswered)
     → IfTaken {A = Instance} (Err why) (Gives StatesElection election) → outcome None
-    → IfSome (settled answer_of (Err why)) (ReadsGroupsPage m l election outcome)
-groups-ended-at-election m l election outcome (stop.Refused r) given left = record {
+    → IfSome (or_refusal answer_of (Err why)) (ReadsGroupsPage m l election outcome)
+groups-ended-at-election m l election outcome (unanswered.Refused r) given left = record {
   of_election = given.delivery;
   of_outcome = None;
   answers = record { e = Err r; o = None; election_states = given.stating; outcome_states = tt; out = refl };
   election_delivered = given.delivered;
   outcome_delivered = left;
 }
-groups-ended-at-election m l election outcome stop.Memory given left = tt
+groups-ended-at-election m l election outcome unanswered.Memory given left = tt
 
 pub groups-ended-at-outcome : (m : Measure) (l : Language) (election : Turn) (outcome : FileTurn) (d : Delivery)
-    (o : Option Delivery) (e : Instance) (why : Stop) → election (Some d) → StatesElection d (Ok e) → outcome (Some o)
+    (o : Option Delivery) (e : Instance) (why : Unanswered) → election (Some d) → StatesElection d (Ok e) → outcome (Some o)
     → IfTaken {A = List Bool} (Err why) (AuditsOutcome e o)
-    → IfSome (settled answer_of (Err why)) (ReadsGroupsPage m l election outcome)
-groups-ended-at-outcome m l election outcome d o e (stop.Refused r) delivered states loaded taken = record {
+    → IfSome (or_refusal answer_of (Err why)) (ReadsGroupsPage m l election outcome)
+groups-ended-at-outcome m l election outcome d o e (unanswered.Refused r) delivered states loaded taken = record {
   of_election = d;
   of_outcome = o;
   answers = record {
@@ -60,7 +60,7 @@ groups-ended-at-outcome m l election outcome d o e (stop.Refused r) delivered st
   election_delivered = delivered;
   outcome_delivered = loaded;
 }
-groups-ended-at-outcome m l election outcome d o e stop.Memory delivered states loaded taken = tt
+groups-ended-at-outcome m l election outcome d o e unanswered.Memory delivered states loaded taken = tt
 
 -- what is told by the figures of all projects
 pub tells-groups : {E : Type 0} (m : Measure) (e : Instance) (w : List Bool) (r : Result Told E) (g : ShortFigures)

@@ -9,9 +9,9 @@ use Rattle.pb_price.specs.declared.Mode.{Mode}
 use Rattle.pb_reply.specs.Inputs.{InTurn, Stated, StatesElection}
 use Rattle.pb_reply.specs.Turns.{FileTurn, Turn}
 use Rattle.pb_reply.specs.Replies.{Answer, answer_of}
-use Rattle.pb_reply.specs.Inside.Taking.{AuditsOutcome, Gives, IfTaken, settled}
-use Rattle.pb_reply.specs.declared.stop.Stop.{Stop}
-use Rattle.pb_reply.specs.declared.stop.Stop.TheVariants as stop
+use Rattle.pb_reply.specs.Inside.Taking.{AuditsOutcome, Gives, IfTaken, or_refusal}
+use Rattle.pb_reply.specs.declared.unanswered.Unanswered.{Unanswered}
+use Rattle.pb_reply.specs.declared.unanswered.Unanswered.TheVariants as unanswered
 use Rattle.pb_reply.specs.declared.status.Status.{Status}
 use Rattle.pb_page.specs.InTurn.{ReadsPage}
 use Rattle.pb_page.specs.Sums.{files_of, sums_of}
@@ -21,10 +21,10 @@ use Rattle.pb_figures.specs.declared.told.Told.{Told}
 use Rattle.pb_page.proofs.Pages.{certificate-refused, election-refused, outcome-refused, page-answered}
 
 pub ended-at-election : (m : Mode) (l : Language) (election : Turn) (outcome : FileTurn)
-    (certificate : Turn) (why : Stop) → IfTaken {A = Instance} (Err why) (Gives StatesElection election)
+    (certificate : Turn) (why : Unanswered) → IfTaken {A = Instance} (Err why) (Gives StatesElection election)
     → outcome None → certificate None
-    → IfSome (settled answer_of (Err why)) (ReadsPage m l election outcome certificate)
-ended-at-election m l election outcome certificate (stop.Refused r) given same untouched = record {
+    → IfSome (or_refusal answer_of (Err why)) (ReadsPage m l election outcome certificate)
+ended-at-election m l election outcome certificate (unanswered.Refused r) given same untouched = record {
   of_election = given.delivery;
   of_outcome = None;
   of_certificate = delivery.Read;
@@ -33,14 +33,14 @@ ended-at-election m l election outcome certificate (stop.Refused r) given same u
   outcome_delivered = same;
   certificate_delivered = untouched;
 }
-ended-at-election m l election outcome certificate stop.Memory given same untouched = tt
+ended-at-election m l election outcome certificate unanswered.Memory given same untouched = tt
 
 pub ended-at-outcome : (m : Mode) (l : Language) (election : Turn) (outcome : FileTurn)
-    (certificate : Turn) (d : Delivery) (o : Option Delivery) (e : Instance) (why : Stop) → election (Some d)
+    (certificate : Turn) (d : Delivery) (o : Option Delivery) (e : Instance) (why : Unanswered) → election (Some d)
     → StatesElection d (Ok e) → outcome (Some o)
     → IfTaken {A = List Bool} (Err why) (AuditsOutcome e o) → certificate None
-    → IfSome (settled answer_of (Err why)) (ReadsPage m l election outcome certificate)
-ended-at-outcome m l election outcome certificate d o e (stop.Refused r) delivered given loaded taken untouched =
+    → IfSome (or_refusal answer_of (Err why)) (ReadsPage m l election outcome certificate)
+ended-at-outcome m l election outcome certificate d o e (unanswered.Refused r) delivered given loaded taken untouched =
     record {
       of_election = d;
       of_outcome = o;
@@ -53,14 +53,14 @@ ended-at-outcome m l election outcome certificate d o e (stop.Refused r) deliver
           (λ (w : Stated (List Bool)). InTurn w (λ marks. certificate (Some delivery.Read)) (certificate None))
           taken.is untouched;
     }
-ended-at-outcome m l election outcome certificate d o e stop.Memory delivered given loaded taken untouched = tt
+ended-at-outcome m l election outcome certificate d o e unanswered.Memory delivered given loaded taken untouched = tt
 
 pub ended-at-certificate : (m : Mode) (l : Language) (election : Turn) (outcome : FileTurn)
     (certificate : Turn) (d : Delivery) (o : Option Delivery) (f : Delivery) (e : Instance) (w : List Bool)
-    (why : Stop) → election (Some d) → StatesElection d (Ok e) → outcome (Some o)
+    (why : Unanswered) → election (Some d) → StatesElection d (Ok e) → outcome (Some o)
     → AuditsOutcome e o (Ok w) → certificate (Some f) → IfTaken {A = Told} (Err why) (TellsCertificate m e w f)
-    → IfSome (settled answer_of (Err why)) (ReadsPage m l election outcome certificate)
-ended-at-certificate m l election outcome certificate d o f e w (stop.Refused r) delivered given loaded taken read states =
+    → IfSome (or_refusal answer_of (Err why)) (ReadsPage m l election outcome certificate)
+ended-at-certificate m l election outcome certificate d o f e w (unanswered.Refused r) delivered given loaded taken read states =
     record {
       of_election = d;
       of_outcome = o;
@@ -72,7 +72,7 @@ ended-at-certificate m l election outcome certificate d o f e w (stop.Refused r)
           subst (λ (s : Stated (List Bool)). InTurn s (λ marks. certificate (Some f)) (certificate None))
           taken.is read;
     }
-ended-at-certificate m l election outcome certificate d o f e w stop.Memory delivered given loaded taken read states =
+ended-at-certificate m l election outcome certificate d o f e w unanswered.Memory delivered given loaded taken read states =
     tt
 
 -- all are accepted

@@ -18,7 +18,7 @@ use Rattle.pb_markup.specs.Pieces.{Piece, rendering}
 use Rattle.pb_price_parts.specs.Rows.{ListsProjects}
 use Rattle.pb_page.specs.Sums.{HasInOrder, bytes_of, sum_text}
 use Rattle.pb_markup.specs.Shown.{shows_of}
-use Rattle.pb_case.specs.declared.case.Files.{Files}
+use Rattle.pb_case.specs.declared.case.PageFiles.{PageFiles}
 use Rattle.pb_case.specs.declared.case.InputFile.{InputFile}
 use Rattle.pb_price.specs.First.{verdict_of}
 use Rattle.pb_price.specs.Told.{first_told}
@@ -45,7 +45,7 @@ TellsCertificate m e w d (Err r) = StatesCertificate e d (Err r)
 abbrev pub sum_of : InputFile → List ℕ
 sum_of file = string_bytes file.sum
 
-abbrev pub sums_shown : Files → List (List ℕ)
+abbrev pub sums_shown : PageFiles → List (List ℕ)
 sums_shown files =
     sum_of files.election ∷ (map sum_of (option_to_list files.outcome) ++ map sum_of (option_to_list files.certificate))
 

@@ -1,7 +1,7 @@
 //! The page on some files.
 ghost use Rattle.std.specs.Prelude.{◌∷◌, ◌++◌, IfOk, IfSome, option_map, option_to_list};
 ghost use Rattle.pb_reply.specs.Inside.Loaded.{lent};
-ghost use Rattle.pb_reply.specs.Inside.Taking.{settled};
+ghost use Rattle.pb_reply.specs.Inside.Taking.{or_refusal};
 ghost use Rattle.pb_reply.specs.Replies.{answer_of};
 ghost use Rattle.pb_reply.specs.Turns.{file_turn, turn};
 ghost use Rattle.pb_page.specs.InTurn.{ReadsPage};
@@ -9,15 +9,15 @@ ghost use Rattle.pb_page.specs.Sums.{sums_of};
 ghost use Rattle.pb_page.specs.Taken as spec;
 ghost use Rattle.pb_page.specs.Taken.{RendersTold, sums_shown};
 
-use crate::input_files::{ElectionTaken, input_files, lend_file, take_election, take_file};
+use crate::input_files::{ElectionTaken, file_given, input_files, take_election, take_file};
 use crate::parts::whole_page;
 use crate::telling::{status_of, told_of};
-use pb_case::{Case, Files, Labels, Words, currency_of, language_of};
+use pb_case::{Case, Labels, PageFiles, Words, currency_of, language_of};
 use pb_election::{Election, Outcome};
 use pb_figures::{Style, Told, decimals_of};
 use pb_parts::nearest_of;
 use pb_price::Mode;
-use pb_reply::{Answer, File, Given, Lend, Status, Stop, outcome_of, settled};
+use pb_reply::{Answer, AsFile, File, Given, Status, Unanswered, or_refusal, outcome_of};
 use pb_words::Language;
 use std::alloc::{AllocError, Global};
 
@@ -51,7 +51,7 @@ pub fn page_answer<E: Given, O: Given, C: Given>(
     ensures { IfOk result (ReadsPage mode language (turn E.delivers election.old election.new) (file_turn O.delivers outcome.old outcome.new) (turn C.delivers certificate.old certificate.new)) }
 {
     let work = page_in_turn(alloc, names, election, outcome, certificate, mode, language);
-    settled(alloc, work)
+    or_refusal(alloc, work)
 }
 
 // The page, or why there is none.
@@ -63,12 +63,12 @@ fn page_in_turn<E: Given, O: Given, C: Given>(
     certificate: &mut C,
     mode: Mode,
     language: Language,
-) -> Result<Answer<Status>, Stop>
-    ensures { IfSome (settled answer_of result) (ReadsPage mode language (turn E.delivers election.old election.new) (file_turn O.delivers outcome.old outcome.new) (turn C.delivers certificate.old certificate.new)) }
+) -> Result<Answer<Status>, Unanswered>
+    ensures { IfSome (or_refusal answer_of result) (ReadsPage mode language (turn E.delivers election.old election.new) (file_turn O.delivers outcome.old outcome.new) (turn C.delivers certificate.old certificate.new)) }
 {
     let taken = take_election(alloc, names.election, election)?;
     let given = take_file(alloc, outcome)?;
-    let funded = outcome_of(alloc, lend_file(&given), &taken.election)?;
+    let funded = outcome_of(alloc, file_given(&given), &taken.election)?;
     let certificate = certificate.take(alloc)?;
     let style = Style {
         language,
@@ -78,7 +78,7 @@ fn page_in_turn<E: Given, O: Given, C: Given>(
         alloc,
         &taken.election,
         &funded,
-        certificate.lend(),
+        certificate.as_file(),
         mode,
         style,
     )?;
@@ -86,8 +86,8 @@ fn page_in_turn<E: Given, O: Given, C: Given>(
         alloc,
         names,
         taken,
-        lend_file(&given),
-        Some(certificate.lend()),
+        file_given(&given),
+        Some(certificate.as_file()),
         &funded,
         told,
     )?;
@@ -113,7 +113,7 @@ pub(crate) fn page_on(
 // The page on what is shown of files that were accepted.
 fn page_with(
     alloc: Global,
-    files: Files,
+    files: PageFiles,
     labels: Labels,
     election: &Election,
     outcome: &Outcome,

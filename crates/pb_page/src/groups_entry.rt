@@ -1,16 +1,16 @@
 //! The page about groups that fall short, which needs no certificate.
 ghost use Rattle.std.specs.Prelude.{IfOk, IfSome};
-ghost use Rattle.pb_reply.specs.Inside.Taking.{settled};
+ghost use Rattle.pb_reply.specs.Inside.Taking.{or_refusal};
 ghost use Rattle.pb_reply.specs.Replies.{answer_of};
 ghost use Rattle.pb_reply.specs.Turns.{file_turn, turn};
 ghost use Rattle.pb_page.specs.Groups.{ReadsGroupsPage};
 
 use crate::entry::{PageNames, page_on};
 use crate::groups_told::groups_told;
-use crate::input_files::{lend_file, take_election, take_file};
+use crate::input_files::{file_given, take_election, take_file};
 use pb_certificate::Measure;
 use pb_figures::{Style, decimals_of};
-use pb_reply::{Answer, Given, Status, Stop, outcome_of, settled};
+use pb_reply::{Answer, Given, Status, Unanswered, or_refusal, outcome_of};
 use pb_words::Language;
 use std::alloc::{AllocError, Global};
 
@@ -32,7 +32,7 @@ pub fn groups_page_answer<E: Given, O: Given>(
     ensures { IfOk result (ReadsGroupsPage measure language (turn E.delivers election.old election.new) (file_turn O.delivers outcome.old outcome.new)) }
 {
     let work = groups_page_in_turn(alloc, names, election, outcome, measure, language);
-    settled(alloc, work)
+    or_refusal(alloc, work)
 }
 
 // The page, or why there is none.
@@ -43,17 +43,17 @@ fn groups_page_in_turn<E: Given, O: Given>(
     outcome: &mut Option<O>,
     measure: Measure,
     language: Language,
-) -> Result<Answer<Status>, Stop>
-    ensures { IfSome (settled answer_of result) (ReadsGroupsPage measure language (turn E.delivers election.old election.new) (file_turn O.delivers outcome.old outcome.new)) }
+) -> Result<Answer<Status>, Unanswered>
+    ensures { IfSome (or_refusal answer_of result) (ReadsGroupsPage measure language (turn E.delivers election.old election.new) (file_turn O.delivers outcome.old outcome.new)) }
 {
     let taken = take_election(alloc, names.election, election)?;
     let given = take_file(alloc, outcome)?;
-    let funded = outcome_of(alloc, lend_file(&given), &taken.election)?;
+    let funded = outcome_of(alloc, file_given(&given), &taken.election)?;
     let style = Style {
         language,
         decimals: decimals_of(&taken.election),
     };
     let told = groups_told(alloc, &taken.election, &funded, measure, style)?;
-    let page = page_on(alloc, names, taken, lend_file(&given), None, &funded, told)?;
+    let page = page_on(alloc, names, taken, file_given(&given), None, &funded, told)?;
     Ok(page)
 }

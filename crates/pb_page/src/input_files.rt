@@ -11,9 +11,9 @@ ghost use Rattle.pb_page.specs.Taken.{GivesElection, sums_shown};
 
 use crate::digest::sum_of;
 use crate::entry::PageNames;
-use pb_case::{Files, InputFile, Labels, labels_of};
+use pb_case::{InputFile, Labels, PageFiles, labels_of};
 use pb_election::Election;
-use pb_reply::{File, Given, Lend, Stop, election_of};
+use pb_reply::{AsFile, File, Given, Unanswered, election_of};
 use pb_visible::visible;
 use std::alloc::{AllocError, Global};
 
@@ -30,15 +30,15 @@ pub(crate) fn take_election<E: Given>(
     alloc: Global,
     name: &[u8],
     input: &mut E,
-) -> Result<ElectionTaken, Stop>
+) -> Result<ElectionTaken, Unanswered>
     ensures given { IfOk result (λ taken. GivesElection (turn E.delivers input.old input.new) taken.election (spec.sum_of taken.file)) }
-    ensures stopped { IfErr result (λ why. IfTaken {A = Instance} (Err why) (Gives StatesElection (turn E.delivers input.old input.new))) }
+    ensures unanswered { IfErr result (λ why. IfTaken {A = Instance} (Err why) (Gives StatesElection (turn E.delivers input.old input.new))) }
 {
     let taken = input.take(alloc)?;
     Ok(ElectionTaken {
-        election: election_of(alloc, taken.lend())?,
-        labels: its_labels(alloc, taken.lend())?,
-        file: input_file(alloc, name, taken.lend())?,
+        election: election_of(alloc, taken.as_file())?,
+        labels: its_labels(alloc, taken.as_file())?,
+        file: input_file(alloc, name, taken.as_file())?,
     })
 }
 
@@ -64,11 +64,11 @@ pub(crate) fn take_file<G: Given>(
 }
 
 /// The file, its bytes lent, where one was taken.
-pub(crate) fn lend_file<T: Lend>(taken: &Option<T>) -> Option<File<'_>>
+pub(crate) fn file_given<T: AsFile>(taken: &Option<T>) -> Option<File<'_>>
     ensures { option_map lent result ≡ option_map T.delivery taken.now }
 {
     match taken {
-        Some(taken) => Some(taken.lend()),
+        Some(taken) => Some(taken.as_file()),
         None => None,
     }
 }
@@ -80,10 +80,10 @@ pub(crate) fn input_files(
     election: InputFile,
     outcome: Option<File<'_>>,
     certificate: Option<File<'_>>,
-) -> Result<Files, AllocError>
+) -> Result<PageFiles, AllocError>
     ensures { IfOk result (λ shown. sums_shown shown ≡ spec.sum_of election ∷ sums_of (option_to_list (option_map lent outcome.entry) ++ option_to_list (option_map lent certificate.entry))) }
 {
-    Ok(Files {
+    Ok(PageFiles {
         election,
         outcome: given_input(alloc, names.outcome, outcome)?,
         certificate: given_input(alloc, names.certificate, certificate)?,

@@ -20,8 +20,8 @@ use pb_figures::{
 use pb_input::{InputFault, InputName};
 use pb_price::{Mode, findings_and_margins_of};
 use pb_reply::{
-    File, Status, Stop, bytes_of, groups_status, kind_in, price_line, price_status,
-    refutation_line, refutation_of, refutation_status, stop_at, violation_line, violation_of,
+    File, Status, Unanswered, bytes_of, groups_status, kind_in, price_line, price_status,
+    refutation_line, refutation_of, refutation_status, unanswered_at, violation_line, violation_of,
     violation_status,
 };
 use std::alloc::{AllocError, Global};
@@ -34,7 +34,7 @@ pub(crate) fn told_of(
     certificate: File<'_>,
     mode: Mode,
     style: Style,
-) -> Result<Told, Stop>
+) -> Result<Told, Unanswered>
     requires { OutcomeFits outcome.now election.now }
     ensures told { IfTaken result (TellsCertificate mode election.now (outcome.now).marks (lent certificate.entry)) }
     ensures style { IfOk result (λ t. t.style ≡ style) }
@@ -54,7 +54,7 @@ fn prices_told(
     certificate: File<'_>,
     mode: Mode,
     style: Style,
-) -> Result<Told, Stop>
+) -> Result<Told, Unanswered>
     requires { OutcomeFits outcome.now election.now }
     ensures told { kind_in (lent certificate.entry) ≡ Kind.Prices → IfTaken result (TellsCertificate mode election.now (outcome.now).marks (lent certificate.entry)) }
     ensures style { IfOk result (λ t. t.style ≡ style) }
@@ -75,7 +75,7 @@ fn price_figures(
     election: &Election,
     outcome: &Outcome,
     certificate: File<'_>,
-) -> Result<PriceFigures, Stop>
+) -> Result<PriceFigures, Unanswered>
     requires { OutcomeFits outcome.now election.now }
     ensures { IfTaken result (FindsFigures election.now (outcome.now).marks (lent certificate.entry)) }
 {
@@ -87,9 +87,12 @@ fn price_figures(
                 margins,
                 extremes,
             }),
-            Err(_) => Err(Stop::Memory),
+            Err(_) => Err(Unanswered::Memory),
         },
-        Err(refusal) => Err(stop_at(InputName::Certificate, InputFault::Certificate(refusal))),
+        Err(refusal) => Err(unanswered_at(
+            InputName::Certificate,
+            InputFault::Certificate(refusal),
+        )),
     }
 }
 
@@ -101,7 +104,7 @@ fn violation_told(
     certificate: File<'_>,
     mode: Mode,
     style: Style,
-) -> Result<Told, Stop>
+) -> Result<Told, Unanswered>
     requires { OutcomeFits outcome.now election.now }
     ensures told { kind_in (lent certificate.entry) ≡ Kind.Violation → IfTaken result (TellsCertificate mode election.now (outcome.now).marks (lent certificate.entry)) }
     ensures style { IfOk result (λ t. t.style ≡ style) }
@@ -152,7 +155,7 @@ fn refutation_told(
     certificate: File<'_>,
     mode: Mode,
     style: Style,
-) -> Result<Told, Stop>
+) -> Result<Told, Unanswered>
     requires { OutcomeFits outcome.now election.now }
     ensures told { kind_in (lent certificate.entry) ≡ Kind.Refutation → IfTaken result (TellsCertificate mode election.now (outcome.now).marks (lent certificate.entry)) }
     ensures style { IfOk result (λ t. t.style ≡ style) }

@@ -20,15 +20,23 @@ fn push_not_said(page: &mut Page, case: &Case<'_>) {
     page.open(Tag::Section);
     page.element(Tag::H2, case.words.say(Sentence::NotSaid));
     page.open(Tag::Ul);
-    push_not_said_of_plain(page, case);
-    page.element(Tag::Li, case.words.say(not_said(case)));
-    push_not_said_of_groups(page, case);
-    for sentence in short_groups::more_not_said(case) {
-        page.element(Tag::Li, case.words.say(*sentence));
+    match &case.told.found {
+        CertificateFigures::Groups(figures) => {
+            for sentence in short_groups::not_said(figures) {
+                page.element(Tag::Li, case.words.say(*sentence));
+            }
+        }
+        _ => push_not_said_of_certificate(page, case),
     }
     page.element(Tag::Li, case.words.say(Sentence::NotSaidFiles));
     page.close();
     page.close();
+}
+
+fn push_not_said_of_certificate(page: &mut Page, case: &Case<'_>) {
+    push_not_said_of_plain(page, case);
+    page.element(Tag::Li, case.words.say(not_said(case)));
+    push_not_said_of_groups(page, case);
 }
 
 // Adds that there may be prices all the same, where weights refute stable ones alone.
@@ -60,13 +68,12 @@ fn not_said(case: &Case<'_>) -> Sentence {
         Headline::NotSupported => Sentence::NotSaidPayments,
         Headline::Violation => Sentence::NotSaidWhich,
         Headline::NoViolation => Sentence::NotSaidGroup,
-        Headline::NoGroupFallsShort => Sentence::OfShortGroups(ShortGroups::NotSaidRoom),
-        Headline::GroupFallsShort => Sentence::OfShortGroups(ShortGroups::NotSaidAdded),
         Headline::Unpriceable
         | Headline::UnpriceableUnderCover
         | Headline::UnpriceableStable
         | Headline::UnpriceableStableUnderCover => Sentence::NotSaidUnfair,
         Headline::NotRefuted => Sentence::NotSaidWeights,
+        Headline::NoGroupFallsShort | Headline::GroupFallsShort => Sentence::NotSaidFiles,
         Headline::NotRefutedStable => Sentence::OfStableWeights(StableWeights::NotSaidWeights),
     }
 }

@@ -1,10 +1,9 @@
 //! What a yes to prices says of every group of voters.
 use pb_case::{Case, Fillings};
 use pb_election::{Election, Outcome};
-use pb_explain::{NearestGroup, nearest_group};
 use pb_figures::{CertificateFigures, Told};
 use pb_markup::{Page, Tag};
-use pb_price::{OnGroups, Verdict};
+use pb_price::{NearestGroup, OnGroups, Verdict, nearest_to};
 use pb_words::Sentence;
 use std::alloc::{AllocError, Global};
 
@@ -43,10 +42,10 @@ pub fn nearest_of(
     outcome: &Outcome,
     told: &Told,
 ) -> Result<Option<NearestGroup>, AllocError> {
-    if said_of_groups(told).is_none() || election.voters() == 0 || !outcome.fits(election) {
-        return Ok(None);
+    match on_groups(told) {
+        Some(said) if outcome.fits(election) => nearest_to(alloc, election, outcome, said),
+        _ => Ok(None),
     }
-    nearest_group(alloc, election, outcome)
 }
 
 /// Adds what the answer says of groups, where it says something, and the group that comes nearest.

@@ -5,18 +5,21 @@ use pb_cohesion::GroupsVerdict;
 use pb_figures::{CertificateFigures, ShortFigures};
 use pb_words::{Sentence, ShortGroups};
 
-/// What else the answer doesn't say, where it is about groups that fall short.
-pub(crate) fn more_not_said(case: &Case<'_>) -> &'static [Sentence] {
-    let CertificateFigures::Groups(figures) = &case.told.found else {
-        return &[];
-    };
-    match figures.verdict() {
-        GroupsVerdict::Satisfied => &[
+/// What the answer doesn't say. Where all that anybody wants was funded, no group got less than it deserves.
+pub(crate) fn not_said(figures: &ShortFigures) -> &'static [Sentence] {
+    match (figures.verdict(), &figures.shown) {
+        (GroupsVerdict::Satisfied, None) => &[
+            Sentence::OfShortGroups(ShortGroups::NotSaidLimit),
+            Sentence::OfShortGroups(ShortGroups::NotSaidPrices),
+        ],
+        (GroupsVerdict::Satisfied, Some(_)) => &[
+            Sentence::OfShortGroups(ShortGroups::NotSaidRoom),
             Sentence::OfShortGroups(ShortGroups::NotSaidLimit),
             Sentence::OfShortGroups(ShortGroups::NotSaidLittle),
             Sentence::OfShortGroups(ShortGroups::NotSaidPrices),
         ],
-        GroupsVerdict::Failed { .. } => &[
+        (GroupsVerdict::Failed { .. }, _) => &[
+            Sentence::OfShortGroups(ShortGroups::NotSaidAdded),
             Sentence::NotSaidWhich,
             Sentence::OfShortGroups(ShortGroups::NotSaidPrices),
         ],

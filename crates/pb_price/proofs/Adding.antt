@@ -1,5 +1,5 @@
 -- A tally with one more row.
-use Rattle.std.proofs.Common.{◌≡◌, ℕ, ◌+◌, ◌-◌, ◌^◌, ◌<◌, ◌≤◌, max, Bool, true, cond, List, length, get_or, set, sym, ◌∙◌, ap, subst, arith}
+use Rattle.std.proofs.Common.{◌≡◌, ℕ, ◌+◌, ◌-◌, ◌^◌, ◌<◌, ◌≤◌, max, Bool, true, cond, List, length, get_or, set, refl, sym, ◌∙◌, ap, subst, arith}
 use Rattle.std.specs.Prelude.{pos, Option, ◌&&◌, ◌==◌, filter, nat_lt, not}
 use Rattle.std.specs.List.{range_with_len}
 use Rattle.std.proofs.lemmas.List.{get_or_default, length-set}
@@ -8,7 +8,8 @@ use Rattle.pb_records.proofs.Lists.{filter-same}
 use Rattle.pb_election.specs.Instance.{Instance, IsProject, IsVoter, approves, projects}
 use Rattle.pb_certificate.specs.declared.prices.row.PriceRow.{PriceRow}
 use Rattle.pb_cohesion.specs.Conditions.{sum_ℤ}
-use Rattle.pb_price.specs.Inside.Tallies.{AreSteps, AreSumsOf, AreTaken, IsFirstPair, Taken, TakesRow, Tallied, first_pair, first_supporters, left_by, most_by, paid_by, pays_wrongly, spent_by, top_by}
+use Rattle.pb_price.specs.Inside.Tallies.{AreSteps, AreSumsOf, AreTaken, AreTallied, IsAtHand, IsFirstPair, Taken, TakesRow, first_pair, first_supporters, left_by, most_by, paid_by, pays_wrongly, spent_by}
+use Rattle.pb_price.specs.declared.at_hand.AtHand.{AtHand}
 use Rattle.pb_price.specs.declared.tally.ProjectSums.{ProjectSums}
 use Rattle.pb_price.specs.declared.tally.Tally.{Tally}
 use Rattle.pb_price.proofs.Amounts.{lefts-same, offers-same, paid-here, paid-other, spent-here, spent-same, top-here}
@@ -110,52 +111,53 @@ pub steps-added : (e : Instance) (rows more closed opened steps : ℕ) → more 
     → AreSteps e rows closed opened steps → AreSteps e more closed opened (steps + 1)
 steps-added e rows more closed opened steps is h = grind arith
 
--- all of it
-pub added : (e : Instance) (a b : Taken) (t u : Tally) (q : PriceRow) (v : ProjectSums) → Tallied e a t → TakesRow a b q
-    → IsVoter e q.voter → IsProject e q.project → q.payment ≤ 10 ^ 21
-    → t.closed + 1 ≡ q.voter → t.opened ≡ q.voter → v ≡ get_or t.projects.items (q.project - 1) v
-    → u.budget ≡ t.budget → u.closed ≡ t.closed → u.opened ≡ t.opened
+-- the sums with the row
+pub added : (e : Instance) (a b : Taken) (t u : Tally) (q : PriceRow) (v : ProjectSums) → AreTallied e a q.voter t
+    → TakesRow a b q → IsVoter e q.voter → IsProject e q.project → q.payment ≤ 10 ^ 21 → t.closed + 1 ≡ q.voter
+    → v ≡ get_or t.projects.items (q.project - 1) v → u.budget ≡ t.budget → u.closed ≡ t.closed
     → u.projects.items ≡ set t.projects.items (q.project - 1) (with_payment (payment_grains q.payment) v)
     → u.unapproved.first ≡ cond (nat_lt 0 q.payment && not (v.last_approver == q.voter))
     (first_pair t.unapproved.first q.voter q.project) t.unapproved.first
     → u.unapproved.count ≡ cond (nat_lt 0 q.payment && not (v.last_approver == q.voter)) (t.unapproved.count + 1)
     t.unapproved.count
-    → u.over_budget ≡ t.over_budget → u.steps ≡ t.steps + 1 → u.spent ≡ t.spent + payment_grains q.payment
-    → u.largest ≡ max t.largest (payment_grains q.payment)
-    → Tallied e b u
-added e a b t u q v h r iv ip small at_hand open_is is budget closed opened sums unapproved count over steps spent
-    largest =
+    → u.over_budget ≡ t.over_budget → u.steps ≡ t.steps + 1 → AreTallied e b q.voter u
+added e a b t u q v h r iv ip small at_hand is budget closed sums unapproved count over steps =
     let low : t.closed < q.voter = omega arith in
     let place : q.project - 1 < projects e = omega arith in
     let back : q.project - 1 + 1 ≡ q.project = omega arith in
     let marked : (v.last_approver == q.voter) ≡ approves e q.voter q.project =
-    ap (λ x. x.last_approver == q.voter) is
-    ∙ ap (λ n. (get_or t.projects.items (q.project - 1) v).last_approver == n) (sym open_is)
-    ∙ h.sums.marked (q.project - 1) v place (omega arith) ∙ ap (λ n. approves e n (q.project - 1 + 1)) open_is
+    ap (λ x. x.last_approver == q.voter) is ∙ h.sums.marked (q.project - 1) v place low
     ∙ ap (approves e q.voter) back in
     record {
       sound = h.sound;
       budget = budget ∙ h.budget ∙ sym r.budget;
-      taken = rw (closed, opened) (taken-added e a b t.closed t.opened q h.taken r small at_hand open_is);
-      sums = rw (closed, opened, sums) (sums-added e a b t.closed t.opened t.projects.items q v h.sums r iv ip low is);
-      spent = spent ∙ ap (λ n. n + payment_grains q.payment) (h.spent ∙ ap (spent_by e a.pays) at_hand)
-          ∙ sym (spent-here e a b q r ip) ∙ ap (spent_by e b.pays) (sym at_hand ∙ ap (λ n. n + 1) (sym closed));
-      largest = largest ∙ ap (λ n. max n (payment_grains q.payment)) (h.largest ∙ ap (top_by e a.pays) at_hand)
-          ∙ sym (top-here e a b q r ip) ∙ ap (top_by e b.pays) (sym at_hand ∙ ap (λ n. n + 1) (sym closed));
-      unapproved =
-          rw unapproved
-          (wrong-added e a b q (v.last_approver == q.voter) t.unapproved.first r iv ip
-          (λ i c late. h.taken.not_later i c (omega arith)) marked h.unapproved);
-      count_unapproved =
-          count-added e a b q (v.last_approver == q.voter) t.unapproved.count u.unapproved.count r iv ip marked
-          h.count_unapproved count;
-      few_unapproved =
-          omega (
-            arith,
-            r.rows,
-            count-few (nat_lt 0 q.payment && not (v.last_approver == q.voter)) t.unapproved.count u.unapproved.count
-                a.rows h.few_unapproved count,
-          );
+      taken = rw closed (taken-added e a b t.closed q.voter q h.taken r small at_hand refl);
+      sums = rw (closed, sums) (sums-added e a b t.closed q.voter t.projects.items q v h.sums r iv ip low is);
+      unapproved = record {
+        first =
+            rw unapproved
+            (wrong-added e a b q (v.last_approver == q.voter) t.unapproved.first r iv ip
+            (λ i c late. h.taken.not_later i c (omega arith)) marked h.unapproved.first);
+        count =
+            count-added e a b q (v.last_approver == q.voter) t.unapproved.count u.unapproved.count r iv ip marked
+            h.unapproved.count count;
+        few =
+            omega (
+              arith,
+              r.rows,
+              count-few (nat_lt 0 q.payment && not (v.last_approver == q.voter)) t.unapproved.count u.unapproved.count
+                  a.rows h.unapproved.few count,
+            );
+      };
       over_budget = rw (closed, over) (over-kept e a b q t.closed t.over_budget r low h.over_budget);
-      steps = rw (closed, opened, steps) (steps-added e a.rows b.rows t.closed t.opened t.steps r.rows h.steps);
+      steps = rw (closed, steps) (steps-added e a.rows b.rows t.closed q.voter t.steps r.rows h.steps);
     }
+
+-- what the voter of the row pays with it
+pub paid-at-hand : (e : Instance) (a b : Taken) (q : PriceRow) (v u : AtHand) → IsAtHand e a q.voter v → TakesRow a b q
+    → IsProject e q.project → u.spent ≡ v.spent + payment_grains q.payment
+    → u.largest ≡ max v.largest (payment_grains q.payment) → IsAtHand e b q.voter u
+paid-at-hand e a b q v u h r ip spent largest = record {
+  spent = spent ∙ ap (λ n. n + payment_grains q.payment) h.spent ∙ sym (spent-here e a b q r ip);
+  largest = largest ∙ ap (λ n. max n (payment_grains q.payment)) h.largest ∙ sym (top-here e a b q r ip);
+}

@@ -16,18 +16,18 @@ use Rattle.pb_certificate.proofs.OnPrices.Clear.{price-clear}
 use Rattle.pb_certificate.proofs.OnPrices.Texts.{stated-payment}
 use Rattle.pb_certificate.proofs.Unique.{price-text-same}
 use Rattle.pb_price.specs.Inside.Tallying.{IsTallied, TakesCertificate, taken_from}
-use Rattle.pb_price.specs.Inside.Tallies.{IsTallyOf, Taken, Tallied}
+use Rattle.pb_price.specs.Inside.Tallies.{IsTallyOf, Taken, Tallied, no_payment}
 use Rattle.pb_price.specs.declared.tallying.CertificateTally.{CertificateTally}
+use Rattle.pb_price.specs.declared.open_tally.OpenTally.{OpenTally}
 use Rattle.pb_price.specs.declared.tally.Tally.{Tally}
 use Rattle.pb_price.proofs.Rows.{count-is, given-is}
-use Rattle.pb_price.proofs.Starting.{no_payment}
 use Rattle.pb_price.proofs.Whole.{Agree, whole}
 
 -- before the first row
 taken-by : ℕ → List Payment → Taken
 taken-by b qs = record { budget = b; pays = stated qs; rows = length qs }
 
-pub before-rows : (e : Instance) (t : Tally) (r : Rows) (b : ℕ) → Tallied e (no_payment b) t
+pub before-rows : (e : Instance) (t : OpenTally) (r : Rows) (b : ℕ) → Tallied e (no_payment b) t
     → b ≡ payment_grains r.budget → given r ≡ [] → Tallied e (taken_from r) t
 unfolding taken-by
 before-rows e t r b h budget none =
@@ -45,20 +45,20 @@ pub record Certified (e : Instance) (recs : List Rec) (r : Rows) (end : Rows) (t
   pub tally : IsTallyOf e (prices_given end) t
   pub rows : length (given end) ≡ length (drop 4 (nonblank recs))
 
-pub tallied-by : (r : Rows) (e : Instance) (t : Tally) (k : TakesCertificate r t) → r.election ≡ e
+pub tallied-by : (r : Rows) (e : Instance) (t : OpenTally) (k : TakesCertificate r t) → r.election ≡ e
     → Tallied e (taken_from k.end) t
 tallied-by r e t k is = subst (λ x. Tallied x (taken_from k.end) t) is k.tallied
 
-pub certified : (r : Rows) (e : Instance) (recs : List Rec) (t new : Tally) (k : TakesCertificate r t) → r.election ≡ e
-    → r.records ≡ recs → Tallied e (taken_from k.end) new → new.closed ≡ voters e → Certified e recs r k.end new
+pub certified : (r : Rows) (e : Instance) (recs : List Rec) (t new : OpenTally) (k : TakesCertificate r t) → r.election ≡ e
+    → r.records ≡ recs → Tallied e (taken_from k.end) new → new.tally.closed ≡ voters e → Certified e recs r k.end new.tally
 certified r e recs t new k is_e is_recs h all =
     let end_recs : k.end.records ≡ r.records = ap (λ x. x.records) k.same in
     let end_e : k.end.election ≡ r.election = ap (λ x. x.election) k.same in
     let end_text : IsPriceText k.end.records k.end.election (prices_given k.end) =
     text-of r.records k.end.records r.election k.end.election (prices_given k.end) (sym end_recs) (sym end_e)
     k.states in
-    let none : nonblank (drop k.end.place k.end.records) ≡ [] =
-    subst (λ x. nonblank (drop k.end.place x) ≡ []) (sym end_recs) k.no_row_left in
+    let none : nonblank (drop k.end.record_number k.end.records) ≡ [] =
+    subst (λ x. nonblank (drop k.end.record_number x) ≡ []) (sym end_recs) k.no_row_left in
     let back : e ≡ k.end.election = sym (end_e ∙ is_e) in
     let agree : Agree e (stated (given k.end)) (payment (prices_given k.end)) = record {
       pays = λ i c iv ip. (
@@ -69,7 +69,7 @@ certified r e recs t new k is_e is_recs h all =
     record {
       text = text-of r.records recs r.election e (prices_given k.end) is_recs is_e k.states;
       denominator = ap (λ x. x.denominator) k.same;
-      tally = whole e (taken_from k.end) new (prices_given k.end) h all refl agree;
+      tally = whole e (taken_from k.end) new.tally (prices_given k.end) h.tally all refl agree;
       rows = count-is k.end (prices_given k.end) end_text none
           ∙ ap (λ x. length (drop 4 (nonblank x))) (end_recs ∙ is_recs);
     }
@@ -82,11 +82,11 @@ of-any {e} {bytes} P k h p text = subst P (price-text-same (certificate_records 
 -- the refusal that a `?` hands on means out of memory, where the records state prices
 pub only-memory : {A : Type 0} (recs : List Rec) (e : Instance) (p : Prices) (f : CertRefusal)
     (r : Result A CertRefusal) → IsErrAnd r (λ x. x ≡ f) → IsPriceText recs e p
-    → (f ≡ no_memory) ⊎ IsFirstFault (price_form e) recs f.place f.fault → r ≡ Err no_memory
+    → (f ≡ no_memory) ⊎ IsFirstFault (price_form e) recs f.record_number f.fault → r ≡ Err no_memory
 only-memory recs e p f r handed text refused =
     let x = err_from_is_err_and r handed in
     x.1 ∙ ap Err (x.2 ∙ go refused)
   where
-    go : (f ≡ no_memory) ⊎ IsFirstFault (price_form e) recs f.place f.fault → f ≡ no_memory
+    go : (f ≡ no_memory) ⊎ IsFirstFault (price_form e) recs f.record_number f.fault → f ≡ no_memory
     go (inl h) = h
-    go (inr h) = absurd (price-clear recs e p text f.place f.fault h)
+    go (inr h) = absurd (price-clear recs e p text f.record_number f.fault h)

@@ -6,10 +6,10 @@ use Rattle.std.specs.Prelude.{ℤ, pos, ◌+ℤ◌, ◌-ℤ◌, nat_lt}
 use Rattle.std.specs.Int.{int_max}
 use Rattle.std.proofs.lemmas.List.Sums.{sum_by_more}
 use Rattle.pb_election.specs.Instance.{Instance, approvals, approves, ballot_of, voters}
-use Rattle.pb_price.specs.Inside.Tallies.{AreChanged, AreSumsOf, IsWithin, Taken, Tallied, left_by, marked_with, most_by, spent_by, top_by, with_supporter}
+use Rattle.pb_price.specs.Inside.Tallies.{AreChanged, AreSumsOf, AreTallied, IsAtHand, IsWithin, Taken, left_by, marked_with, most_by, spent_by, top_by, with_supporter}
+use Rattle.pb_price.specs.declared.at_hand.AtHand.{AtHand}
 use Rattle.pb_price.specs.declared.tally.ProjectSums.{ProjectSums}
 use Rattle.pb_price.specs.declared.tally.Tally.{Tally}
-use Rattle.pb_price.proofs.Amounts.{spent-none, top-none}
 use Rattle.pb_price.proofs.Bounds.{left-bound, most-bound}
 use Rattle.pb_price.specs.Inside.Noted.{IsFindingTo, noted}
 use Rattle.pb_price.specs.Inside.Looked.{compared}
@@ -33,16 +33,14 @@ sums-opened : (e : Instance) (a : Taken) (closed opened : ℕ) (xs ys : List Pro
     → AreSumsOf e a closed (closed + 1) ys
 sums-opened e a closed opened xs ys h early m = grind arith
 
-pub opened : (e : Instance) (a : Taken) (t u : Tally) → Tallied e a t → t.opened ≤ t.closed
+pub opened : {before : ℕ} (e : Instance) (a : Taken) (t u : Tally) → AreTallied e a before t → before ≤ t.closed
     → AreChanged (marked_with (t.closed + 1)) t.projects.items u.projects.items (ballot_of e (t.closed + 1))
-    → u.budget ≡ t.budget → u.closed ≡ t.closed → u.opened ≡ t.closed + 1 → u.unapproved ≡ t.unapproved
-    → u.over_budget ≡ t.over_budget
-    → u.steps ≡ t.steps + length (ballot_of e (t.closed + 1)) → u.spent ≡ t.spent → u.largest ≡ t.largest
-    → Tallied e a u
-opened e a t u h early m budget closed opened_is unapproved over steps spent largest = record {
+    → u.budget ≡ t.budget → u.closed ≡ t.closed → u.unapproved ≡ t.unapproved → u.over_budget ≡ t.over_budget
+    → u.steps ≡ t.steps + length (ballot_of e (t.closed + 1)) → AreTallied e a (t.closed + 1) u
+opened {before} e a t u h early m budget closed unapproved over steps = record {
   sound = h.sound;
   budget = budget ∙ h.budget;
-  taken = rw (closed, opened_is) (record {
+  taken = rw closed (record {
     within = h.taken.within;
     small_budget = h.taken.small_budget;
     small = h.taken.small;
@@ -50,14 +48,10 @@ opened e a t u h early m budget closed opened_is unapproved over steps spent lar
     seen = omega arith;
     not_unseen = λ c soon. absurd (omega arith);
   });
-  sums = rw (closed, opened_is) (sums-opened e a t.closed t.opened t.projects.items u.projects.items h.sums early m);
-  spent = spent ∙ h.spent ∙ ap (λ n. spent_by e a.pays (n + 1)) (sym closed);
-  largest = largest ∙ h.largest ∙ ap (λ n. top_by e a.pays (n + 1)) (sym closed);
+  sums = rw closed (sums-opened e a t.closed before t.projects.items u.projects.items h.sums early m);
   unapproved = rw unapproved h.unapproved;
-  count_unapproved = rw unapproved h.count_unapproved;
-  few_unapproved = rw unapproved h.few_unapproved;
   over_budget = rw (closed, over) h.over_budget;
-  steps = rw (closed, opened_is, steps) (record {
+  steps = rw (closed, steps) (record {
     low = omega (arith, h.steps.low);
     high = omega (arith, h.steps.unopened early);
     unopened = λ soon. absurd (omega arith);
@@ -104,72 +98,73 @@ pub approvals-next : (e : Instance) (n : ℕ) → n < voters e
 approvals-next e n h = grind (arith, sum_by_more, get_or)
 
 -- what the voter at hand has left and can offer
-left-is : (e : Instance) (a : Taken) (t : Tally) → Tallied e a t
-    → pos t.budget -ℤ pos t.spent ≡ left_by a.budget e a.pays (t.closed + 1)
-left-is e a t h = ap (λ x. pos x -ℤ pos t.spent) h.budget ∙ ap (λ x. pos a.budget -ℤ pos x) h.spent
+left-is : {opened : ℕ} (e : Instance) (a : Taken) (t : Tally) (v : AtHand) → AreTallied e a opened t
+    → IsAtHand e a (t.closed + 1) v → pos t.budget -ℤ pos v.spent ≡ left_by a.budget e a.pays (t.closed + 1)
+left-is e a t v h w = ap (λ x. pos x -ℤ pos v.spent) h.budget ∙ ap (λ x. pos a.budget -ℤ pos x) w.spent
 
-most-is : (e : Instance) (a : Taken) (t : Tally) → Tallied e a t
-    → int_max (pos t.largest) (pos t.budget -ℤ pos t.spent) ≡ most_by a.budget e a.pays (t.closed + 1)
-most-is e a t h = grind arith
+most-is : {opened : ℕ} (e : Instance) (a : Taken) (t : Tally) (v : AtHand) → AreTallied e a opened t
+    → IsAtHand e a (t.closed + 1) v
+    → int_max (pos v.largest) (pos t.budget -ℤ pos v.spent) ≡ most_by a.budget e a.pays (t.closed + 1)
+most-is e a t v h w = ap (λ x. int_max (pos x) (pos t.budget -ℤ pos v.spent)) w.largest
+    ∙ ap (int_max (pos (top_by e a.pays (t.closed + 1)))) (left-is e a t v h w)
 
 -- the same, as they are kept in 128 bits
-pub left-kept : (e : Instance) (a : Taken) (t : Tally) (l : ℤ) → Tallied e a t → l ≡ pos t.budget -ℤ pos t.spent
+pub left-kept : {opened : ℕ} (e : Instance) (a : Taken) (t : Tally) (v : AtHand) (l : ℤ) → AreTallied e a opened t
+    → IsAtHand e a (t.closed + 1) v → l ≡ pos t.budget -ℤ pos v.spent
     → to_z w128 (of_z w128 l) ≡ left_by a.budget e a.pays (t.closed + 1)
-left-kept e a t l h l_is =
-    let now : l ≡ left_by a.budget e a.pays (t.closed + 1) = l_is ∙ left-is e a t h in
+left-kept e a t v l h w l_is =
+    let now : l ≡ left_by a.budget e a.pays (t.closed + 1) = l_is ∙ left-is e a t v h w in
     small-kept l (subst (IsWithin (10 ^ 32)) (sym now) (left-bound e a t (t.closed + 1) h)) ∙ now
 
-pub most-kept : (e : Instance) (a : Taken) (t : Tally) (l o : ℤ) → Tallied e a t → l ≡ pos t.budget -ℤ pos t.spent
-    → o ≡ int_max (pos t.largest) (to_z w128 (of_z w128 l))
+pub most-kept : {opened : ℕ} (e : Instance) (a : Taken) (t : Tally) (v : AtHand) (l o : ℤ) → AreTallied e a opened t
+    → IsAtHand e a (t.closed + 1) v → l ≡ pos t.budget -ℤ pos v.spent
+    → o ≡ int_max (pos v.largest) (to_z w128 (of_z w128 l))
     → to_z w128 (of_z w128 o) ≡ most_by a.budget e a.pays (t.closed + 1)
-most-kept e a t l o h l_is o_is =
+most-kept e a t v l o h w l_is o_is =
     let now : o ≡ most_by a.budget e a.pays (t.closed + 1) =
-    o_is ∙ ap (int_max (pos t.largest)) (left-kept e a t l h l_is ∙ sym (left-is e a t h)) ∙ most-is e a t h in
+    o_is ∙ ap (int_max (pos v.largest)) (left-kept e a t v l h w l_is ∙ sym (left-is e a t v h w))
+    ∙ most-is e a t v h w in
     small-kept o (subst (IsWithin (10 ^ 32)) (sym now) (most-bound e a t (t.closed + 1) h)) ∙ now
 
-pub closed : (e : Instance) (a : Taken) (t u : Tally) (l o : ℤ) → Tallied e a t → t.closed < voters e
+-- nothing was taken of the voter behind the one at hand
+pub next-unpaid : {opened : ℕ} (e : Instance) (a : Taken) (t : Tally) → AreTallied e a opened t
+    → (c : ℕ) → a.pays (t.closed + 1 + 1) c ≡ 0
+next-unpaid e a t h c = h.taken.not_later (t.closed + 1 + 1) c (omega arith)
+
+pub closed : (e : Instance) (a : Taken) (t u : Tally) (v : AtHand) (l o : ℤ) → AreTallied e a v.opened t
+    → IsAtHand e a (t.closed + 1) v → t.closed < voters e
     → l ≡ left_by a.budget e a.pays (t.closed + 1) → o ≡ most_by a.budget e a.pays (t.closed + 1)
     → AreChanged (with_supporter l o) t.projects.items u.projects.items (ballot_of e (t.closed + 1))
-    → u.budget ≡ t.budget → u.closed ≡ t.closed + 1 → u.opened ≡ t.opened → u.unapproved ≡ t.unapproved
-    → u.over_budget ≡ noted (nat_lt t.budget t.spent) (compared (t.closed + 1) t.budget (pos t.spent)) t.over_budget
-    → u.steps ≡ t.steps + (length (ballot_of e (t.closed + 1)) + 1) → u.spent ≡ 0 → u.largest ≡ 0 → Tallied e a u
-closed e a t u l o h more l_is o_is m budget closed_is opened_is unapproved over steps spent largest =
-    let nothing_later : (c : ℕ) → a.pays (t.closed + 1 + 1) c ≡ 0 =
-    λ c. h.taken.not_later (t.closed + 1 + 1) c (omega arith) in
-    record {
-      sound = h.sound;
-      budget = budget ∙ h.budget;
-      taken = rw (closed_is, opened_is) (record {
-        within = omega arith;
-        small_budget = h.taken.small_budget;
-        small = h.taken.small;
-        not_later = λ i c late. h.taken.not_later i c (omega arith);
-        seen = omega (arith, h.taken.seen);
-        not_unseen = λ c soon. nothing_later c;
-      });
-      sums =
-          rw (closed_is, opened_is)
-          (sums-closed e a t.closed t.opened l o t.projects.items u.projects.items h.sums h.taken.seen l_is o_is m);
-      spent = spent ∙ sym (spent-none e a.pays (t.closed + 1 + 1) nothing_later)
-          ∙ ap (λ n. spent_by e a.pays (n + 1)) (sym closed_is);
-      largest = largest ∙ sym (top-none e a.pays (t.closed + 1 + 1) nothing_later)
-          ∙ ap (λ n. top_by e a.pays (n + 1)) (sym closed_is);
-      unapproved = rw unapproved h.unapproved;
-      count_unapproved = rw unapproved h.count_unapproved;
-      few_unapproved = rw unapproved h.few_unapproved;
-      over_budget =
-          rw closed_is
-          (subst
-          (λ f. IsFindingTo (t.closed + 1) (λ i. nat_lt a.budget (spent_by e a.pays i)) (λ i. true) (λ i. a.budget)
-          (λ i. pos (spent_by e a.pays i)) f)
-          (sym (over ∙ ap (λ x. noted (nat_lt x t.spent) (compared (t.closed + 1) x (pos t.spent)) t.over_budget)
-          h.budget
-          ∙ ap (λ x. noted (nat_lt a.budget x) (compared (t.closed + 1) a.budget (pos x)) t.over_budget) h.spent))
-          (tried (λ i. nat_lt a.budget (spent_by e a.pays i)) (λ i. true) (λ i. a.budget)
-          (λ i. pos (spent_by e a.pays i)) t.closed t.over_budget _ h.over_budget refl refl));
-      steps = rw (closed_is, opened_is, steps) (record {
-        low = omega (arith, h.steps.low);
-        high = omega (arith, h.steps.high, approvals-next e t.closed more);
-        unopened = λ soon. omega (arith, h.steps.high, approvals-next e t.closed more);
-      });
-    }
+    → u.budget ≡ t.budget → u.closed ≡ t.closed + 1 → u.unapproved ≡ t.unapproved
+    → u.over_budget ≡ noted (nat_lt t.budget v.spent) (compared (t.closed + 1) t.budget (pos v.spent)) t.over_budget
+    → u.steps ≡ t.steps + (length (ballot_of e (t.closed + 1)) + 1) → AreTallied e a v.opened u
+closed e a t u v l o h w more l_is o_is m budget closed_is unapproved over steps = record {
+  sound = h.sound;
+  budget = budget ∙ h.budget;
+  taken = rw closed_is (record {
+    within = omega arith;
+    small_budget = h.taken.small_budget;
+    small = h.taken.small;
+    not_later = λ i c late. h.taken.not_later i c (omega arith);
+    seen = omega (arith, h.taken.seen);
+    not_unseen = λ c soon. next-unpaid e a t h c;
+  });
+  sums =
+      rw closed_is
+      (sums-closed e a t.closed v.opened l o t.projects.items u.projects.items h.sums h.taken.seen l_is o_is m);
+  unapproved = rw unapproved h.unapproved;
+  over_budget =
+      rw closed_is
+      (subst
+      (λ f. IsFindingTo (t.closed + 1) (λ i. nat_lt a.budget (spent_by e a.pays i)) (λ i. true) (λ i. a.budget)
+      (λ i. pos (spent_by e a.pays i)) f)
+      (sym (over ∙ ap (λ x. noted (nat_lt x v.spent) (compared (t.closed + 1) x (pos v.spent)) t.over_budget) h.budget
+      ∙ ap (λ x. noted (nat_lt a.budget x) (compared (t.closed + 1) a.budget (pos x)) t.over_budget) w.spent))
+      (tried (λ i. nat_lt a.budget (spent_by e a.pays i)) (λ i. true) (λ i. a.budget)
+      (λ i. pos (spent_by e a.pays i)) t.closed t.over_budget _ h.over_budget refl refl));
+  steps = rw (closed_is, steps) (record {
+    low = omega (arith, h.steps.low);
+    high = omega (arith, h.steps.high, approvals-next e t.closed more);
+    unopened = λ soon. omega (arith, h.steps.high, approvals-next e t.closed more);
+  });
+}

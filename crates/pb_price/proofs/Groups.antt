@@ -23,6 +23,7 @@ use Rattle.pb_price.proofs.FirstFalse.{first-false, is-less, supports-iff}
 use Rattle.pb_price.specs.Answers.{IsVerdictOn}
 use Rattle.pb_price.specs.First.{First, verdict_of}
 use Rattle.pb_price.specs.OnGroups.{HoldsOfGroups, IsCaseOf, IsStrict, groups_by}
+use Rattle.pb_price.specs.Promises.{YesPromises}
 use Rattle.pb_price.specs.Supports.{Supports}
 use Rattle.pb_price.specs.declared.OnGroups.{OnGroups}
 use Rattle.pb_price.specs.declared.OnGroups.TheVariants.{Strict, Weak, Little}
@@ -155,27 +156,34 @@ failed-some : (o : Option Failure) (f : Failure) → verdict_of o ≡ verdict.Fa
 failed-some None f h = cc
 failed-some (Some g) f h = let same : g ≡ f = cc in ap Some same
 
+-- where no condition fails, all promises of a yes hold
+pub all-promised : (m : Mode) (e : Instance) (w : List Bool) (p : Prices) → 1 ≤ p.denominator → First m e w p ≡ None
+    → YesPromises m e w p
+all-promised m e w p low none = record {
+  plain = plain-yes m e w p none;
+  stable = stable-yes m e w p none;
+  budgets = budgets m e w p none;
+  groups = groups m e w p low none;
+  shares = shares m e w p low none;
+  pjr_plus = passes-nobody-over m e w p low none;
+  demands = λ reached. demands_reach e w (shares m e w p low none reached);
+  pjr = λ strict. no_demand_passed_over e w (passes-nobody-over m e w p low none strict);
+  fair = fair m e w p none;
+  ejr = no-violation m e w p low none;
+  ejr_plus = ejr-plus m e w p low none;
+  unrefuted = unrefuted m e w p low none;
+  unrefuted_stable = unrefuted-stable m e w p low none;
+}
+
 -- the verdict by the first failure, with what it says of every group
 pub on-prices : (m : Mode) (e : Instance) (w : List Bool) (p : Prices) (v : Verdict) → 1 ≤ p.denominator
     → v ≡ verdict_of (First m e w p) → IsVerdictOn m e w p v
 on-prices m e w p v low is = record {
   first = is;
   supported = (λ h. (supports-iff m e w p).0 (none h), λ s. is ∙ ap verdict_of ((supports-iff m e w p).1 s));
-  plain_yes = λ h plain'. plain-yes m e w p (none h) plain';
+  yes = λ h. all-promised m e w p low (none h);
   plain_no = λ c h. plain-no m e w p c (failed-some (First m e w p) (failure.C5 c) (sym is ∙ h));
-  stable_yes = λ h stable'. stable-yes m e w p (none h) stable';
   stable_no = λ c h. stable-no m e w p c (failed-some (First m e w p) (failure.S5 c) (sym is ∙ h));
-  any_yes = λ h. budgets m e w p (none h);
-  share_yes = λ h reached. shares m e w p low (none h) reached;
-  groups_yes = λ h. groups m e w p low (none h);
-  pjr_plus_yes = λ h strict. passes-nobody-over m e w p low (none h) strict;
-  demand_yes = λ h reached. demands_reach e w (shares m e w p low (none h) reached);
-  pjr_yes = λ h strict. no_demand_passed_over e w (passes-nobody-over m e w p low (none h) strict);
-  unrefuted_yes = λ h. unrefuted m e w p low (none h);
-  unrefuted_stable_yes = λ h stable'. unrefuted-stable m e w p low (none h) stable';
-  fair_yes = λ h stable'. fair m e w p (none h) stable';
-  covered_yes = λ h stable' strict. no-violation m e w p low (none h) stable' strict;
-  ejr_plus_yes = λ h stable' strict. ejr-plus m e w p low (none h) stable' strict;
 }
   where
     none : v ≡ verdict.Supported → First m e w p ≡ None

@@ -24,3 +24,5 @@ pub mod Explained
 pub mod Told
 pub mod Lowest
 pub mod FirstFalse
+pub mod Reached
+pub mod Nearer

@@ -11,7 +11,7 @@ use Rattle.pb_cohesion.proofs.Loops.{set-at, set-length}
 use Rattle.pb_price.specs.Inside.Tallies.{CanTakeRow, IsTallyOf, Taken, TakesRow, Tallied}
 use Rattle.pb_price.proofs.Whole.{Agree, whole}
 use Rattle.pb_price.specs.Inside.Tallying.{TakesUntil, pays_until}
-use Rattle.pb_price.specs.declared.tally.Tally.{Tally}
+use Rattle.pb_price.specs.declared.open_tally.OpenTally.{OpenTally}
 
 -- the projects that are paid for
 
@@ -65,7 +65,7 @@ pays-other p i k l a b ne = rw (ne_eqb a i ne) refl
 pays-here : (p : Prices) (i k b : ℕ) → pays_until p i k i b ≡ numerator_in (take k (payments_of p i)) b
 pays-here p i k b = rw (eq-eqb i i refl) refl
 
-pub takes-next : (e : Instance) (p : Prices) (i k : ℕ) (d : ℕ × ℕ) (t : Tally) (u : TakesUntil e p i k t)
+pub takes-next : (e : Instance) (p : Prices) (i k : ℕ) (d : ℕ × ℕ) (t : OpenTally) (u : TakesUntil e p i k t)
     → IsPaymentMap p.projects (payments_of p i) → k < length (payments_of p i)
     → TakesRow u.taken (with_next p i k u.taken) (row_of i (get_or (payments_of p i) k d))
 takes-next e p i k d t u m w =
@@ -88,7 +88,7 @@ takes-next e p i k d t u m w =
       ]);
     }
 
-pub can-take : (e : Instance) (p : Prices) (i k : ℕ) (d : ℕ × ℕ) (t : Tally) → TakesUntil e p i k t → PricesFit p e
+pub can-take : (e : Instance) (p : Prices) (i k : ℕ) (d : ℕ × ℕ) (t : OpenTally) → TakesUntil e p i k t → PricesFit p e
     → IsPaymentMap p.projects (payments_of p i) → k < length (payments_of p i) → IsVoter e i
     → CanTakeRow e t (row_of i (get_or (payments_of p i) k d))
 can-take e p i k d t u fits m w v =
@@ -109,13 +109,13 @@ can-take e p i k d t u fits m w v =
         v.1,
         few-payments p.projects (payments_of p i) m,
         fits.each_project,
-        u.tallied.sound.few_projects,
-        u.tallied.sound.few_voters,
+        u.tallied.tally.sound.few_projects,
+        u.tallied.tally.sound.few_voters,
       );
     }
 
-pub took-next : (e : Instance) (p : Prices) (i k : ℕ) (d : ℕ × ℕ) (t new : Tally) (u : TakesUntil e p i k t)
-    → Tallied e (with_next p i k u.taken) new → new.closed + 1 ≡ i → TakesUntil e p i (k + 1) new
+pub took-next : (e : Instance) (p : Prices) (i k : ℕ) (d : ℕ × ℕ) (t new : OpenTally) (u : TakesUntil e p i k t)
+    → Tallied e (with_next p i k u.taken) new → new.tally.closed + 1 ≡ i → TakesUntil e p i (k + 1) new
 took-next e p i k d t new u h at_hand = grind arith
 
 -- all payments of a voter, and none of the next
@@ -147,19 +147,19 @@ all-of-voter p i k a b low end = elim (cases_eq a i) [
       | inr more ↦ le-ltb x y more ∙ sym (le-ltb x (y + 1) (omega arith))
     ]
 
-pub took-voter : (e : Instance) (p : Prices) (i k : ℕ) (t : Tally) → TakesUntil e p i k t → IsVoter e i → PricesFit p e
+pub took-voter : (e : Instance) (p : Prices) (i k : ℕ) (t : OpenTally) → TakesUntil e p i k t → IsVoter e i → PricesFit p e
     → IsPaymentMap p.projects (payments_of p i) → k ≡ length (payments_of p i) → TakesUntil e p (i + 1) 0 t
 took-voter e p i k t u v fits m end = grind (arith, all-of-voter, few-payments)
 
 -- all payments were taken
-pub takes-all : (e : Instance) (p : Prices) (t : Tally) (u : TakesUntil e p (voters e + 1) 0 t)
+pub takes-all : (e : Instance) (p : Prices) (t : OpenTally) (u : TakesUntil e p (voters e + 1) 0 t)
     → Agree e u.taken.pays (payment p)
 takes-all e p t u = grind arith
 
-pub few-rows : (e : Instance) (p : Prices) (t : Tally) (u : TakesUntil e p (voters e + 1) 0 t) → u.taken.rows ≤ 10 ^ 12
-few-rows e p t u = omega (arith, u.few, u.tallied.sound.few_voters)
+pub few-rows : (e : Instance) (p : Prices) (t : OpenTally) (u : TakesUntil e p (voters e + 1) 0 t) → u.taken.rows ≤ 10 ^ 12
+few-rows e p t u = omega (arith, u.few, u.tallied.tally.sound.few_voters)
 
 -- the tally of these prices, once all voters are closed
-pub tally-of : (e : Instance) (p : Prices) (t new : Tally) (u : TakesUntil e p (voters e + 1) 0 t)
-    → Tallied e u.taken new → new.closed ≡ voters e → IsTallyOf e p new
-tally-of e p t new u h all = whole e u.taken new p h all u.budget_is (takes-all e p t u)
+pub tally-of : (e : Instance) (p : Prices) (t new : OpenTally) (u : TakesUntil e p (voters e + 1) 0 t)
+    → Tallied e u.taken new → new.tally.closed ≡ voters e → IsTallyOf e p new.tally
+tally-of e p t new u h all = whole e u.taken new.tally p h.tally all u.budget_is (takes-all e p t u)

@@ -19,7 +19,7 @@ use Rattle.pb_certificate.proofs.OnPrices.RowSteps.{may-follow}
 use Rattle.pb_certificate.proofs.OnPrices.Texts.{stated-length}
 use Rattle.pb_price.specs.Inside.Tallies.{CanTakeRow, TakesRow, Tallied}
 use Rattle.pb_price.specs.Inside.Tallying.{taken_from}
-use Rattle.pb_price.specs.declared.tally.Tally.{Tally}
+use Rattle.pb_price.specs.declared.open_tally.OpenTally.{OpenTally}
 
 none-before : (q x : Payment) (qs : List Payment) → list_any (same_pair q) (x ∷ qs) ≡ false
     → (((x.voter == q.voter) && (x.project == q.project)) ≡ false) × (list_any (same_pair q) qs ≡ false)
@@ -62,8 +62,8 @@ takes-row old new q g =
           (and_right (q.voter == i) (q.project == c) (ne_eqb q.project c (λ e. ne (sym e)))));
     }
 
-pub can-take : (e : Instance) (old new : Rows) (q : PriceRow) (t : Tally) → GivesRow old new q → old.election ≡ e
-    → Tallied e (taken_from old) t → t.closed ≤ last_voter (given old) - 1 → CanTakeRow e t q
+pub can-take : (e : Instance) (old new : Rows) (q : PriceRow) (t : OpenTally) → GivesRow old new q → old.election ≡ e
+    → Tallied e (taken_from old) t → t.tally.closed ≤ last_voter (given old) - 1 → CanTakeRow e t q
 can-take e old new q t g is h closed =
     let f = may-follow (given old) (as_payment q) g.follows in
     let voter : IsVoter e q.voter = subst (λ x. IsVoter x q.voter) is g.voter in
@@ -90,11 +90,11 @@ pub last-then : (old new : Rows) (q : PriceRow) → GivesRow old new q → last_
 last-then old new q g = ap last_voter g.given_then ∙ last-of 0 (given old) (as_payment q)
 
 -- fewer records are left
-pub falls : (old new : Rows) (r : Rec) → ComesNext old new.place r → new.records ≡ old.records
-    → length new.records - new.place < length old.records - old.place
+pub falls : (old new : Rows) (r : Rec) → ComesNext old new.record_number r → new.records ≡ old.records
+    → length new.records - new.record_number < length old.records - old.record_number
 falls old new r n same =
-    let left : length old.records - old.place ≡ length n.blanks + length (r ∷ n.rest) =
-    sym (length-drop old.place old.records) ∙ ap length n.cut ∙ length-append n.blanks (r ∷ n.rest) in
+    let left : length old.records - old.record_number ≡ length n.blanks + length (r ∷ n.rest) =
+    sym (length-drop old.record_number old.records) ∙ ap length n.cut ∙ length-append n.blanks (r ∷ n.rest) in
     omega (arith, ap length same, n.at, left)
 
 all-behind : (recs : List Rec) (n : ℕ) → nonblank (drop n recs) ≡ [] → nonblank (take n recs) ≡ nonblank recs
@@ -102,16 +102,16 @@ all-behind recs n none =
     sym (ap nonblank (sym (take-append-drop n recs)) ∙ filter-append (λ r. not (is_blank r)) (take n recs) (drop n recs)
     ∙ ap (λ ys. nonblank (take n recs) ++ ys) none ∙ append-nil (nonblank (take n recs)))
 
-pub rows-are : (s : Rows) (p : Prices) (t : IsPriceText s.records s.election p) → nonblank (drop s.place s.records) ≡ []
-    → drop 4 (nonblank (take s.place s.records)) ≡ t.rows
-rows-are s p t none = ap (drop 4) (all-behind s.records s.place none ∙ t.cut)
+pub rows-are : (s : Rows) (p : Prices) (t : IsPriceText s.records s.election p) → nonblank (drop s.record_number s.records) ≡ []
+    → drop 4 (nonblank (take s.record_number s.records)) ≡ t.rows
+rows-are s p t none = ap (drop 4) (all-behind s.records s.record_number none ∙ t.cut)
 
-pub given-is : (s : Rows) (p : Prices) (t : IsPriceText s.records s.election p) → nonblank (drop s.place s.records) ≡ []
+pub given-is : (s : Rows) (p : Prices) (t : IsPriceText s.records s.election p) → nonblank (drop s.record_number s.records) ≡ []
     → given s ≡ t.payments
 given-is s p t none = ap (filter_map (payment_of s.election)) (rows-are s p t none)
     ∙ filter_map-all (payment_of s.election) t.rows t.payments t.each_row
 
-pub count-is : (s : Rows) (p : Prices) (t : IsPriceText s.records s.election p) → nonblank (drop s.place s.records) ≡ []
+pub count-is : (s : Rows) (p : Prices) (t : IsPriceText s.records s.election p) → nonblank (drop s.record_number s.records) ≡ []
     → length (given s) ≡ length (drop 4 (nonblank s.records))
 count-is s p t none =
     ap length (given-is s p t none) ∙ stated-length (payment_of s.election) t.rows t.payments t.each_row

@@ -13,7 +13,7 @@ use Rattle.pb_cohesion.proofs.Firsts.{first-mapped}
 use Rattle.pb_cohesion.proofs.Loops.{range-first, range-lists-first}
 use Rattle.pb_cohesion.proofs.Sums.{range-same}
 use Rattle.pb_price.specs.Answers.{AreStepsOf}
-use Rattle.pb_price.specs.Inside.Tallies.{IsFirstPair, IsTallyOf, Taken, Tallied, first_supporters, left_by, most_by, paid_by, pays_wrongly, spent_by, top_by}
+use Rattle.pb_price.specs.Inside.Tallies.{AreTallied, IsFirstPair, IsTallyOf, Taken, first_supporters, left_by, most_by, paid_by, pays_wrongly, spent_by, top_by}
 use Rattle.pb_price.specs.declared.PaymentFinding.{PaymentFinding}
 use Rattle.pb_price.specs.declared.tally.Tally.{Tally}
 use Rattle.pb_price.specs.Inside.Noted.{IsFindingTo}
@@ -75,7 +75,7 @@ first-wrong e f p (Some q) h first =
 abbrev wrongly : Option (ℕ × ℕ) → ℕ → PaymentFinding
 wrongly first count = record { first = first; count = count }
 
-pub whole : (e : Instance) (a : Taken) (t : Tally) (p : Prices) → Tallied e a t → t.closed ≡ voters e
+pub whole : {opened : ℕ} (e : Instance) (a : Taken) (t : Tally) (p : Prices) → AreTallied e a opened t → t.closed ≡ voters e
     → a.budget ≡ beta p → Agree e a.pays (payment p) → IsTallyOf e p t
 whole e a t p h all budget agree = record {
   budget = h.budget ∙ budget;
@@ -94,8 +94,8 @@ whole e a t p h all budget agree = record {
         (λ i low high. most-agree (beta p) e a.pays (payment p) i agree (low, omega arith)));
     count = λ k d w. (h.sums.count k d w ∙ ap (λ n. length (first_supporters e n (k + 1))) all);
   };
-  unapproved = ap (λ o. wrongly o t.unapproved.count) (first-wrong e a.pays p t.unapproved.first agree h.unapproved)
-      ∙ ap (wrongly (slice_get (culprits_of_C1 e p) 0)) (h.count_unapproved ∙ count-culprits e a.pays p agree.pays);
+  unapproved = ap (λ o. wrongly o t.unapproved.count) (first-wrong e a.pays p t.unapproved.first agree h.unapproved.first)
+      ∙ ap (wrongly (slice_get (culprits_of_C1 e p) 0)) (h.unapproved.count ∙ count-culprits e a.pays p agree.pays);
   over_budget =
       found-as (voters e) (λ i. nat_lt a.budget (spent_by e a.pays i)) (λ i. true) (culprits_of_C2 e p) (all_voters e)
       (λ i. a.budget) (λ i. beta p) (λ i. pos (spent_by e a.pays i)) (λ i. pos (spent e p i)) t.over_budget
@@ -113,6 +113,6 @@ whole e a t p h all budget agree = record {
 }
 
 -- the steps of a whole tally, and those of the passes over the projects
-pub whole-steps : (e : Instance) (a : Taken) (t : Tally) (rows : ℕ) → Tallied e a t → t.closed ≡ voters e
+pub whole-steps : {opened : ℕ} (e : Instance) (a : Taken) (t : Tally) (rows : ℕ) → AreTallied e a opened t → t.closed ≡ voters e
     → a.rows ≡ rows → AreStepsOf e rows (t.steps + 2 * projects e)
 whole-steps e a t rows h all count = grind (arith, take_all, get_or_past)

@@ -2,4 +2,5 @@
 pub mod Tallies
 pub mod Noted
 pub mod Looked
+pub mod Reached
 pub mod Tallying

@@ -2,10 +2,11 @@ pub mod Supports
 pub mod OnGroups
 pub mod First
 pub mod FirstFalse
+pub mod Promises
 pub mod Answers
 pub mod Margins
 pub mod Findings
 pub mod Told
-pub mod Samples
+pub mod NearestGroup
 pub mod Ranges
 pub mod Inside

@@ -1,23 +1,21 @@
 //! The verdict on a price system.
 
-ghost use Rattle.std.specs.Prelude.{◌≡◌, ◌≤◌, ◌+◌, ◌*◌, ◌^◌, ◌↔◌, ◌⊎◌, ℕ, length, IfErr, IfOk, IsFalse, IsTrue, MatchResult, Ok};
+ghost use Rattle.std.specs.Prelude.{◌≡◌, ◌≤◌, ◌+◌, ◌*◌, ◌^◌, ◌↔◌, ◌⊎◌, ℕ, length, IfErr, IfOk, MatchResult, Ok};
 ghost use Rattle.pb_election.specs.Instance.{IsProject, projects};
 ghost use Rattle.pb_election.specs.Outcome.{OutcomeFits};
 ghost use Rattle.pb_certificate.specs.Faults.{Refuses, certificate_records, no_memory, price_form};
 ghost use Rattle.pb_certificate.specs.Prices as spec;
 ghost use Rattle.pb_certificate.specs.Prices.Text.{IsPriceText};
 ghost use Rattle.pb_certificate.specs.Prices.{PricesFit, most_denominator};
-ghost use Rattle.pb_certificate.specs.declared.violations.measure.Measure.TheVariants.{ByCount};
-ghost use Rattle.pb_cohesion.specs.EveryGroup.{BudgetsAreWithinReach, BudgetsReachTheLimit, DemandsAreWithinReach, GroupsGetTheirShare, NoDemandIsPassedOver, NoGroupHasMoreLeft, NoGroupIsPassedOver, NoViolationByCounting, NothingBlocks, SharesAreWithinReach, SupportersBlock, SupportersHaveMoreLeft};
-ghost use Rattle.pb_cohesion.specs.Refutations.{NothingRefutes, NothingRefutesStable};
-ghost use Rattle.pb_cohesion.specs.Short.{SatisfiesEjrPlus};
+ghost use Rattle.pb_cohesion.specs.EveryGroup.{SupportersBlock, SupportersHaveMoreLeft};
 ghost use Rattle.pb_price.specs.Answers.{AreStepsOf, IsVerdictOn, row_count};
-ghost use Rattle.pb_price.specs.OnGroups.{HoldsOfGroups, IsStrict, groups_by};
+ghost use Rattle.pb_price.specs.Promises.{YesPromises};
 ghost use Rattle.pb_price.specs.Supports.{Supports};
 ghost use Rattle.pb_price.specs.First.{First, verdict_of};
 ghost use Rattle.pb_price.specs.Inside.Tallies.{AreInRange, IsTallyOf, most_grains, sums_of};
 
 use crate::explaining::findings_by;
+use crate::open_tally::OpenTally;
 use crate::tally::Tally;
 use crate::tallying::{take_certificate, take_prices};
 use crate::{Checked, Failure, Mode, Verdict};
@@ -41,39 +39,18 @@ pub fn check(
     ensures first { IfOk result (λ v. v ≡ verdict_of (First mode election.now (outcome.now).marks prices.now)) }
     ensures supported { IfOk result (λ v. (v ≡ Verdict.Supported) ↔ Supports mode election.now (outcome.now).marks prices.now) }
 
-    // What a plain answer says of every group.
-    ensures plain_yes { result ≡ Ok Verdict.Supported → IsFalse mode.stable → NoGroupHasMoreLeft election.now (outcome.now).marks prices.now }
+    // What a yes says of every group and of every refutation.
+    ensures yes { result ≡ Ok Verdict.Supported → YesPromises mode election.now (outcome.now).marks prices.now }
+
+    // What a no by the last condition says of the supporters of the project that it names.
     ensures plain_no { (c : ℕ) → result ≡ Ok (Verdict.Failed (Failure.C5 c)) → SupportersHaveMoreLeft election.now prices.now c }
-
-    // What a stable answer says.
-    ensures stable_yes { result ≡ Ok Verdict.Supported → IsTrue mode.stable → NothingBlocks election.now (outcome.now).marks prices.now }
     ensures stable_no { (c : ℕ) → result ≡ Ok (Verdict.Failed (Failure.S5 c)) → SupportersBlock election.now (outcome.now).marks prices.now c }
-
-    // What a stable yes says of what groups deserve, and where it is strict of groups.
-    ensures fair_yes { result ≡ Ok Verdict.Supported → IsTrue mode.stable → GroupsGetTheirShare election.now (outcome.now).marks prices.now }
-    ensures covered_yes { result ≡ Ok Verdict.Supported → IsTrue mode.stable → IsStrict mode election.now prices.now → NoViolationByCounting election.now (outcome.now).marks }
-    ensures ejr_plus_yes { result ≡ Ok Verdict.Supported → IsTrue mode.stable → IsStrict mode election.now prices.now → SatisfiesEjrPlus ByCount election.now (outcome.now).marks }
-
-    // What a yes in either form says.
-    ensures any_yes { result ≡ Ok Verdict.Supported → BudgetsAreWithinReach election.now (outcome.now).marks prices.now }
-
-    // What it says of shares of the limit and of demands, where the budgets of all voters together are at least the
-    // limit, and where it is strict of groups. Each case of `OnGroups` holds.
-    ensures groups_yes { result ≡ Ok Verdict.Supported → HoldsOfGroups (groups_by mode election.now prices.now) election.now (outcome.now).marks }
-    ensures share_yes { result ≡ Ok Verdict.Supported → BudgetsReachTheLimit election.now prices.now → SharesAreWithinReach election.now (outcome.now).marks }
-    ensures pjr_plus_yes { result ≡ Ok Verdict.Supported → IsStrict mode election.now prices.now → NoGroupIsPassedOver election.now (outcome.now).marks }
-    ensures demand_yes { result ≡ Ok Verdict.Supported → BudgetsReachTheLimit election.now prices.now → DemandsAreWithinReach election.now (outcome.now).marks }
-    ensures pjr_yes { result ≡ Ok Verdict.Supported → IsStrict mode election.now prices.now → NoDemandIsPassedOver election.now (outcome.now).marks }
-
-    // What a yes in any mode says of refutations, and a stable one of those of stable prices.
-    ensures unrefuted_yes { result ≡ Ok Verdict.Supported → NothingRefutes mode.cover election.now (outcome.now).marks }
-    ensures unrefuted_stable_yes { result ≡ Ok Verdict.Supported → IsTrue mode.stable → NothingRefutesStable mode.cover election.now (outcome.now).marks }
 {
     let budget = payment_grains(prices.budget());
-    let mut tally = Tally::new(alloc, election, budget)?;
-    take_prices(&mut tally, election, prices);
-    tally.finish(election);
-    let checked = judge(election, outcome, mode, prices.denominator(), &tally);
+    let mut so_far = OpenTally::new(alloc, election, budget)?;
+    take_prices(&mut so_far, election, prices);
+    so_far.finish(election);
+    let checked = judge(election, outcome, mode, prices.denominator(), &so_far.tally);
     Ok(checked.verdict)
 }
 

@@ -3,13 +3,15 @@
 //! form for projects with costs.
 #![tactic(auto)]
 
+mod at_hand;
 mod checking;
 mod explaining;
 mod figures;
 pub mod laws;
+mod nearest;
 mod noting;
 mod on_groups;
-mod samples;
+mod open_tally;
 mod tally;
 mod tallying;
 mod telling;
@@ -17,6 +19,7 @@ mod telling;
 pub use checking::{check, check_rows};
 pub use explaining::findings_of;
 pub use figures::{findings_and_margins_of, margins_of};
+pub use nearest::{NearestGroup, nearest_to};
 
 /// What is asked of a price system.
 #[derive(Clone, Copy, Debug, PartialEq, Eq)]

@@ -5,8 +5,9 @@ ghost use Rattle.std.specs.Prelude.{◌≡◌, ◌<◌, ◌≤◌, ◌+◌, ◌^
 ghost use Rattle.std.specs.Int.{int_max};
 ghost use Rattle.pb_election.specs.Instance.{IsSet, voters};
 ghost use Rattle.pb_price.specs.Inside.Noted.{first_number};
-ghost use Rattle.pb_price.specs.Inside.Tallies.{AreChanged, AreSmall, CanTakeRow, IsWithin, Taken, Tallied, TakesRow, first_pair, marked_with, most_grains, with_supporter};
+ghost use Rattle.pb_price.specs.Inside.Tallies.{AreChanged, AreSmall, AreTallied, CanAddRow, IsAtHand, IsWithin, Taken, TakesRow, first_pair, marked_with, most_grains, no_payment, with_supporter};
 
+use crate::at_hand::AtHand;
 use crate::noting::NOTHING_FOUND;
 use crate::{Comparison, Finding, PaymentFinding};
 use pb_certificate::PriceRow;
@@ -30,8 +31,7 @@ pub(crate) struct ProjectSums {
 }
 
 /// The sums of the payments that were taken, which come by voter. The voters up to one are closed: they are counted
-/// among the supporters of the projects that they approve, with what they have left and can offer. The next one is at
-/// hand.
+/// among the supporters of the projects that they approve, with what they have left and can offer.
 #[derive(Drop)]
 pub(crate) struct Tally {
     /// The budget of each voter.
@@ -44,19 +44,15 @@ pub(crate) struct Tally {
     pub over_budget: Finding,
     /// One for each row taken, entry of a ballot looked at, and voter closed.
     pub steps: u64,
-    closed: u32,
-    // The last voter whose ballot was gone through for its rows.
-    opened: u32,
-    // What the voter at hand pays for all projects together, and the most that it pays for one.
-    spent: u128,
-    largest: u128,
+    /// The last voter that is closed, and 0 before the first.
+    pub closed: u32,
 }
 
 impl Tally {
     /// A tally of no payment, for voters with so many grains each.
     pub fn new(alloc: Global, election: &Election, budget: u128) -> Result<Tally, AllocError>
         requires { budget ≤ most_grains }
-        ensures { IfOk result (λ t. Tallied election.now (record { budget = budget; pays = λ i c. 0; rows = 0 }) t × (t.closed ≡ 0)) }
+        ensures { IfOk result (λ t. AreTallied election.now (no_payment budget) 0 t × (t.closed ≡ 0)) }
     {
         let none = ProjectSums {
             paid: 0,
@@ -75,102 +71,54 @@ impl Tally {
             over_budget: NOTHING_FOUND,
             steps: 0,
             closed: 0,
-            opened: 0,
-            spent: 0,
-            largest: 0,
         })
     }
 
-    /// Takes a row. The rows come by voter, and none is on the voter and the project of another.
-    pub fn take(&mut self, election: &Election, row: PriceRow)
-        requires { CanTakeRow election.now self.old row }
-        ensures taken { (a b : Taken) → Tallied election.now a self.old → TakesRow a b row → Tallied election.now b self.new }
-        ensures closed { (self.new).closed + 1 ≡ row.voter }
-    {
-        self.close_to(election, row.voter - 1);
-        self.open(election);
-        self.add(election, row);
-    }
-
-    /// Closes all voters, after the last row.
-    pub fn finish(&mut self, election: &Election)
-        requires { (a : Taken) × Tallied election.now a self.old × (a.rows ≤ 10 ^ 12) }
-        ensures taken { (a : Taken) → Tallied election.now a self.old → Tallied election.now a self.new }
-        ensures closed { (self.new).closed ≡ voters election.now }
-    {
-        self.close_to(election, election.voters());
-    }
-
-    // Closes the voters up to this one.
-    fn close_to(&mut self, election: &Election, last: u32)
-        requires tallied { (a : Taken) × Tallied election.now a self.old × (a.rows ≤ 10 ^ 12) }
-        requires order { (self.old).closed ≤ last }
-        requires last { last ≤ voters election.now }
-        ensures taken { (a : Taken) → Tallied election.now a self.old → Tallied election.now a self.new }
-        ensures closed { (self.new).closed ≡ last }
-    {
-        while self.closed < last {
-            self.close(election);
-        }
-    }
-
-    // Closes the voter at hand: what it has left and can offer goes to each project that it approves.
-    fn close(&mut self, election: &Election)
-        requires tallied { (a : Taken) × Tallied election.now a self.old × (a.rows ≤ 10 ^ 12) }
+    /// Closes the voter at hand: what it has left and can offer goes to each project that it approves.
+    pub fn close(&mut self, election: &Election, at_hand: AtHand)
+        requires tallied { (a : Taken) × AreTallied election.now a at_hand.opened self.old × IsAtHand election.now a ((self.old).closed + 1) at_hand × (a.rows ≤ 10 ^ 12) }
         requires more { (self.old).closed < voters election.now }
-        ensures taken { (a : Taken) → Tallied election.now a self.old → Tallied election.now a self.new }
+        ensures taken { (a : Taken) → AreTallied election.now a at_hand.opened self.old → IsAtHand election.now a ((self.old).closed + 1) at_hand → AreTallied election.now a at_hand.opened self.new }
         ensures closed { (self.new).closed ≡ (self.old).closed + 1 }
     {
         let voter = self.closed + 1;
-        let left = left_of(self.budget, self.spent);
-        let offer = offer_of(left, self.largest);
+        let left = left_of(self.budget, at_hand.spent);
+        let offer = offer_of(left, at_hand.largest);
         let ballot = election.ballot(voter);
         give(&mut self.projects, ballot, left, offer);
         let compared = Comparison {
             at: voter,
             bound: self.budget,
-            amount: self.spent as i128,
+            amount: at_hand.spent as i128,
         };
-        self.over_budget.note(self.budget < self.spent, compared);
+        self.over_budget.note(self.budget < at_hand.spent, compared);
         self.steps += ballot.len() as u64 + 1;
         self.closed = voter;
-        self.spent = 0;
-        self.largest = 0;
     }
 
-    // Opens the voter at hand, where it is not open yet: marks the projects that it approves.
-    fn open(&mut self, election: &Election)
-        requires tallied { (a : Taken) × Tallied election.now a self.old × (a.rows ≤ 10 ^ 12) }
+    /// Opens the voter at hand, which is not open yet: marks the projects that it approves.
+    pub fn open(&mut self, election: &Election)
+        requires tallied { (a : Taken) × (opened : ℕ) × AreTallied election.now a opened self.old × (opened ≤ (self.old).closed) × (a.rows ≤ 10 ^ 12) }
         requires more { (self.old).closed < voters election.now }
-        ensures taken { (a : Taken) → Tallied election.now a self.old → Tallied election.now a self.new }
+        ensures taken { (a : Taken) (opened : ℕ) → AreTallied election.now a opened self.old → opened ≤ (self.old).closed → AreTallied election.now a ((self.old).closed + 1) self.new }
         ensures closed { (self.new).closed ≡ (self.old).closed }
-        ensures opened { (self.new).opened ≡ (self.old).closed + 1 }
     {
-        if self.closed < self.opened {
-            return;
-        }
         let voter = self.closed + 1;
         let ballot = election.ballot(voter);
         mark(&mut self.projects, ballot, voter);
         self.steps += ballot.len() as u64;
-        self.opened = voter;
     }
 
-    // Adds a payment of the voter at hand, which is open.
-    fn add(&mut self, election: &Election, row: PriceRow)
-        requires can { CanTakeRow election.now self.old row }
-        requires at_hand { (self.old).closed + 1 ≡ row.voter }
-        requires opened { (self.old).opened ≡ row.voter }
-        ensures taken { (a b : Taken) → Tallied election.now a self.old → TakesRow a b row → Tallied election.now b self.new }
+    /// Adds a payment of the voter at hand, which is open.
+    pub fn add(&mut self, election: &Election, row: PriceRow)
+        requires { CanAddRow election.now self.old row }
+        ensures taken { (a b : Taken) → AreTallied election.now a row.voter self.old → TakesRow a b row → AreTallied election.now b row.voter self.new }
         ensures closed { (self.new).closed ≡ (self.old).closed }
     {
-        let grains = payment_grains(row.payment);
         let sums = &mut self.projects[row.project as usize - 1];
-        sums.paid += grains;
+        sums.paid += payment_grains(row.payment);
         let approved = sums.last_approver == row.voter;
         self.unapproved = unapproved_with(self.unapproved, approved, row);
-        self.spent += grains;
-        self.largest = self.largest.max(grains);
         self.steps += 1;
     }
 }

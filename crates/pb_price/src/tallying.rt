@@ -9,6 +9,7 @@ ghost use Rattle.pb_certificate.specs.Prices.Rows.{given};
 ghost use Rattle.pb_price.specs.Inside.Tallying.{IsTallied, TakesCertificate, TakesUntil, taken_from};
 ghost use Rattle.pb_price.specs.Inside.Tallies.{Tallied};
 
+use crate::open_tally::OpenTally;
 use crate::tally::Tally;
 use pb_certificate::{CertFault, CertRefusal, PriceRow, Prices, Rows};
 use pb_election::Election;
@@ -18,7 +19,7 @@ use std::alloc::Global;
 /// Out of memory.
 pub(crate) const NO_MEMORY: CertRefusal = CertRefusal {
     fault: CertFault::Memory,
-    place: 0,
+    record_number: 0,
 };
 
 /// The tally of all rows of a certificate, and the denominator that they are over.
@@ -40,51 +41,54 @@ pub(crate) fn take_certificate(
     let rows = Rows::open(alloc, bytes, election)?;
     let denominator = rows.denominator();
     let budget = payment_grains(rows.budget());
-    let Ok(mut tally) = Tally::new(alloc, election, budget) else {
+    let Ok(mut so_far) = OpenTally::new(alloc, election, budget) else {
         return Err(NO_MEMORY);
     };
-    take_rows(&mut tally, election, rows)?;
-    tally.finish(election);
-    Ok(CertificateTally { denominator, tally })
+    take_rows(&mut so_far, election, rows)?;
+    so_far.finish(election);
+    Ok(CertificateTally {
+        denominator,
+        tally: so_far.tally,
+    })
 }
 
 // Takes all rows that a certificate has left, each once, or refuses the first that has a fault.
-fn take_rows(tally: &mut Tally, election: &Election, rows: Rows) -> Result<(), CertRefusal>
+fn take_rows(so_far: &mut OpenTally, election: &Election, rows: Rows) -> Result<(), CertRefusal>
     requires election { rows.election ≡ election.now }
     requires none_given { given rows ≡ [] }
-    requires tallied { Tallied election.now (taken_from rows) tally.old }
-    requires none_closed { (tally.old).closed ≡ 0 }
-    ensures taken { IfOk result (λ done. TakesCertificate rows.entry tally.new) }
-    ensures refused { IfErr result (λ r. (r ≡ no_memory) ⊎ IsFirstFault (price_form election.now) (rows.entry).records r.place r.fault) }
+    requires tallied { Tallied election.now (taken_from rows) so_far.old }
+    requires none_closed { (so_far.old).tally.closed ≡ 0 }
+    ensures taken { IfOk result (λ done. TakesCertificate rows.entry so_far.new) }
+    ensures refused { IfErr result (λ r. (r ≡ no_memory) ⊎ IsFirstFault (price_form election.now) (rows.entry).records r.record_number r.fault) }
 {
     let mut left = rows;
     loop {
         let (behind, row) = left.next()?;
         left = behind;
         match row {
-            Some(row) => tally.take(election, row),
+            Some(row) => so_far.take(election, row),
             None => return Ok(()),
         }
     }
 }
 
 /// Takes all payments of these prices, voter by voter.
-pub(crate) fn take_prices(tally: &mut Tally, election: &Election, prices: &Prices)
+pub(crate) fn take_prices(so_far: &mut OpenTally, election: &Election, prices: &Prices)
     requires prices { PricesFit prices.now election.now }
-    requires none { TakesUntil election.now prices.now 1 0 tally.old }
-    ensures { TakesUntil election.now prices.now (voters election.now + 1) 0 tally.new }
+    requires none { TakesUntil election.now prices.now 1 0 so_far.old }
+    ensures { TakesUntil election.now prices.now (voters election.now + 1) 0 so_far.new }
 {
     for k in 0..election.voters() {
-        take_payments_of(tally, election, prices, k + 1);
+        take_payments_of(so_far, election, prices, k + 1);
     }
 }
 
 // Takes the payments of voter i.
-fn take_payments_of(tally: &mut Tally, election: &Election, prices: &Prices, i: u32)
+fn take_payments_of(so_far: &mut OpenTally, election: &Election, prices: &Prices, i: u32)
     requires prices { PricesFit prices.now election.now }
     requires voter { IsVoter election.now i }
-    requires before { TakesUntil election.now prices.now i 0 tally.old }
-    ensures { TakesUntil election.now prices.now (i + 1) 0 tally.new }
+    requires before { TakesUntil election.now prices.now i 0 so_far.old }
+    ensures { TakesUntil election.now prices.now (i + 1) 0 so_far.new }
 {
     let payments = prices.payments_of(i);
     for (project, numerator) in payments {
@@ -93,6 +97,6 @@ fn take_payments_of(tally: &mut Tally, election: &Election, prices: &Prices, i: 
             project: *project,
             payment: *numerator,
         };
-        tally.take(election, row);
+        so_far.take(election, row);
     }
 }

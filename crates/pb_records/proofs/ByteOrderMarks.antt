@@ -1,9 +1,11 @@
 -- Dropping byte order marks.
-use Rattle.std.proofs.Common.{◌≡◌, ℕ, List, [], ◌∷◌, refl, Bool, true, false, take, drop, nat_eq}
+use Rattle.std.proofs.Common.{◌≡◌, ◌≤◌, ◌+◌, ◌*◌, ℕ, List, [], ◌∷◌, length, refl, arith, Bool, true, false, take, drop, nat_eq}
 use Rattle.std.specs.Prelude.{◌==◌, ◌&&◌}
 use Rattle.std.specs.Cmp.Lexicographic.{pointwise}
-use Rattle.csv.specs.Reading.{is_bom, strip_bom}
+use Rattle.csv.specs.Reading.{is_bom, records, strip_bom}
+use Rattle.csv.specs.declared.parser.Config.{Config}
 use Rattle.pb_records.specs.Records.{drop_marks}
+use Rattle.pb_records.proofs.Csv.{count}
 
 -- the reader finds no mark any more
 pub strip_bom-drop_marks : (xs : List ℕ) → strip_bom (drop_marks xs) ≡ drop_marks xs
@@ -49,3 +51,12 @@ pub marks_none : (xs : List ℕ) → pointwise nat_eq (take 3 xs) mark ≡ false
 unfolding drop_marks
 marks_none (a ∷ b ∷ c ∷ rest) h = rw (rw (bom_test a b c rest) at h) refl
 marks_none _ h = refl
+
+-- a file has at most half as many records as bytes, and one more byte
+marks-shrink : (xs : List ℕ) → length (drop_marks xs) ≤ length xs
+unfolding drop_marks
+marks-shrink (a ∷ b ∷ c ∷ rest) = grind (arith, marks-shrink rest)
+marks-shrink _ = omega arith
+
+pub count-records : (cfg : Config) (bytes : List ℕ) → 2 * length (records cfg (drop_marks bytes)) ≤ length bytes + 1
+count-records cfg bytes = grind (arith, count, marks-shrink)

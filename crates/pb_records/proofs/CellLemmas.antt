@@ -1,7 +1,7 @@
 -- The words on cells, step by step.
-use Rattle.std.proofs.Common.{◌≡◌, ◌∙◌, ◌<◌, ◌≤◌, ◌+◌, ◌-◌, ◌++◌, ℕ, zero, suc, [], ◌∷◌, refl, sym, ap, arith, add-one, Bool, true, false, Some, None, length, drop, take, get_or}
+use Rattle.std.proofs.Common.{◌≡◌, ◌∙◌, ◌<◌, ◌≤◌, ◌+◌, ◌-◌, ◌++◌, ℕ, [], ◌∷◌, refl, sym, ap, arith, add-one, Bool, true, false, Some, None, length, drop, take, get_or}
 use Rattle.std.specs.Prelude.{◌&&◌}
-use Rattle.std.specs.List.{list_all, slice_range}
+use Rattle.std.specs.List.{slice_range}
 use Rattle.std.proofs.lemmas.Bool.Decides.{nat_tests}
 use Rattle.std.proofs.lemmas.List.{drop_all}
 use Rattle.std.proofs.lemmas.Str.{IsCharBoundary-after_ascii, IsCharBoundary-before_ascii}
@@ -13,6 +13,7 @@ use Rattle.pb_money.specs.Digits.{drop_back, drop_front, is_empty}
 use Rattle.pb_money.proofs.Fractions.{some-left}
 use Rattle.pb_records.specs.Records.{Field, Rec}
 use Rattle.pb_records.specs.Cells.{clean, is_blank, is_space}
+use Rattle.pb_records.proofs.Csv.{all-drop, field-none}
 
 -- a space is a byte of ASCII
 pub space-ascii : (b : ℕ) → is_space b ≡ true → b < 128
@@ -90,27 +91,7 @@ pub back-ends : (text : Field) (end : ℕ) → end ≤ 0 → drop_back is_space 
 unfolding drop_back
 back-ends text end h = grind arith
 
--- the fields from a place on
-all-drop : (p : Field → Bool) (fs : Rec) (i : ℕ) (f : Field) → field_at fs i ≡ Some f
-    → list_all p (drop i fs) ≡ (p f && list_all p (drop (i + 1) fs))
-unfolding field_at
-all-drop p [] i f e = cc e
-all-drop p (x ∷ xs) zero f e = grind arith
-all-drop p (x ∷ xs) (suc i) f e = grind (arith, all-drop p xs i f e)
-
-pub field-none : (fs : Rec) (i : ℕ) → field_at fs i ≡ None → drop i fs ≡ []
-unfolding field_at
-field-none [] zero e = refl
-field-none [] (suc i) e = refl
-field-none (x ∷ xs) zero e = cc e
-field-none (x ∷ xs) (suc i) e = field-none xs i e
-
-pub field-some : (fs : Rec) (i : ℕ) (f : Field) → field_at fs i ≡ Some f → i < length fs
-unfolding field_at
-field-some [] i f e = cc e
-field-some (x ∷ xs) zero f e = omega arith
-field-some (x ∷ xs) (suc i) f e = omega (arith, field-some xs i f e)
-
+-- whether the fields from a place on are blank
 pub blank-drop : (fs : Rec) (i : ℕ) (f : Field) → field_at fs i ≡ Some f
     → is_blank (drop i fs) ≡ (is_empty (clean f) && is_blank (drop (i + 1) fs))
 unfolding is_blank

@@ -31,7 +31,7 @@ none-anywhere form pre (r ∷ rs) h (suc k) within =
 
 -- so nothing is refused
 pub none-refused : {F : Type 0} (form : Form F) (recs : List Rec) → ClearFrom form [] (nonblank recs)
-    → (place : ℕ) (f : F) → IsFirstFault form recs place f → ⊥
+    → (record_number : ℕ) (f : F) → IsFirstFault form recs record_number f → ⊥
 none-refused form recs h zero f r = let some : Some f ≡ None = sym r.here in cc
 none-refused form recs h (suc k) f r =
     let none : fault_at form recs (suc k) ≡ None = none-anywhere form [] recs h k (omega arith) in

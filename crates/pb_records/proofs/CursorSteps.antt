@@ -7,14 +7,14 @@ use Rattle.pb_records.specs.Cells.{is_blank, nonblank}
 use Rattle.pb_records.specs.Inside.Position.{Position}
 
 -- blank records alone lie between two places
-pub record Skips (old : Position) (place : ℕ) (left : List Rec) : Type 0 where
+pub record Skips (old : Position) (record_number : ℕ) (left : List Rec) : Type 0 where
   pub blanks : List Rec
   pub are_blank : nonblank blanks ≡ []
   pub cut : old.left ≡ blanks ++ left
-  pub at : place ≡ old.place + length blanks
+  pub at : record_number ≡ old.record_number + length blanks
 
-pub skip-one : {old : Position} {place : ℕ} {left rest : List Rec} {r : Rec} → Skips old place left → left ≡ r ∷ rest
-    → is_blank r ≡ true → Skips old (place + 1) rest
+pub skip-one : {old : Position} {record_number : ℕ} {left rest : List Rec} {r : Rec} → Skips old record_number left → left ≡ r ∷ rest
+    → is_blank r ≡ true → Skips old (record_number + 1) rest
 skip-one {rest = rest} {r = r} s found e =
     record {
       blanks = s.blanks ++ (r ∷ []);

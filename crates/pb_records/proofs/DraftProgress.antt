@@ -15,12 +15,12 @@ use Rattle.pb_records.specs.FirstFault.{Form, IsFirstFault, NoFault, fault_after
 use Rattle.pb_records.proofs.Lists.{get-seam}
 
 -- the records before these are taken, and no fault stands among them; `has` says what they left
-pub record Progress {F : Type 0} (form : Form F) (has : List Rec → Type 0) (recs left : List Rec) (place : ℕ) : Type
+pub record Progress {F : Type 0} (form : Form F) (has : List Rec → Type 0) (recs left : List Rec) (record_number : ℕ) : Type
     0 where
   pub taken : List Rec
   pub split : recs ≡ taken ++ left
-  pub count : place ≡ length taken
-  pub none : (k : ℕ) → k < place + 1 → fault_at form recs k ≡ None
+  pub count : record_number ≡ length taken
+  pub none : (k : ℕ) → k < record_number + 1 → fault_at form recs k ≡ None
   pub done : has (nonblank taken)
 
 pub nonblank-blank : (recs : List Rec) (r : Rec) → is_blank r ≡ true → nonblank (recs ++ (r ∷ [])) ≡ nonblank recs
@@ -41,23 +41,23 @@ pub fault-here : {F : Type 0} (form : Form F) (recs taken rest : List Rec) (r : 
 fault-here form recs taken rest r e =
     rw (e, add-one (length taken), get-seam taken rest r, take-append_seam taken (r ∷ rest)) refl
 
-below-more : (k place : ℕ) → nat_lt k place ≡ true → suc k < place + 1
-below-more k place l = let h : k < place = grind (arith, nat_tests) in omega arith
+below-more : (k record_number : ℕ) → nat_lt k record_number ≡ true → suc k < record_number + 1
+below-more k record_number l = let h : k < record_number = grind (arith, nat_tests) in omega arith
 
-past : (k place n : ℕ) → nat_lt k place ≡ false → place ≡ n → n ≤ k
-past k place n l e = let h : place ≤ k = grind (arith, nat_tests) in omega arith
+past : (k record_number n : ℕ) → nat_lt k record_number ≡ false → record_number ≡ n → n ≤ k
+past k record_number n l e = let h : record_number ≤ k = grind (arith, nat_tests) in omega arith
 
 -- the records after one more
-more : {F : Type 0} (form : Form F) (has : List Rec → Type 0) (recs taken rest : List Rec) (r : Rec) (place : ℕ)
-    → recs ≡ taken ++ r ∷ rest → place ≡ length taken
-    → ((k : ℕ) → k < place + 1 → fault_at form recs k ≡ None) → fault_after form taken (Some r) ≡ None
-    → has (nonblank (taken ++ (r ∷ []))) → Progress form has recs rest (place + 1)
-more form has recs taken rest r place split count none here h =
+more : {F : Type 0} (form : Form F) (has : List Rec → Type 0) (recs taken rest : List Rec) (r : Rec) (record_number : ℕ)
+    → recs ≡ taken ++ r ∷ rest → record_number ≡ length taken
+    → ((k : ℕ) → k < record_number + 1 → fault_at form recs k ≡ None) → fault_after form taken (Some r) ≡ None
+    → has (nonblank (taken ++ (r ∷ []))) → Progress form has recs rest (record_number + 1)
+more form has recs taken rest r record_number split count none here h =
     record {
       taken = taken ++ (r ∷ []);
       split = split ∙ sym (append_assoc taken (r ∷ []) rest);
       count = omega (arith, length-append taken (r ∷ []));
-      none = below_more (λ k. fault_at form recs k ≡ None) (place + 1) none
+      none = below_more (λ k. fault_at form recs k ≡ None) (record_number + 1) none
           (rw count (fault-here form recs taken rest r split ∙ here));
       done = h;
     }
@@ -66,41 +66,41 @@ pub progress-start : {F : Type 0} (form : Form F) (has : List Rec → Type 0) (r
     → Progress form has recs recs 0
 progress-start form has recs h = grind arith
 
-progress-blank : {F : Type 0} {form : Form F} {has : List Rec → Type 0} {recs rest : List Rec} {r : Rec} {place : ℕ}
-    → Progress form has recs (r ∷ rest) place → is_blank r ≡ true
-    → Progress form has recs rest (place + 1)
-progress-blank {form = form} {has = has} {recs = recs} {rest = rest} {r = r} {place = place} p e =
-    more form has recs p.taken rest r place p.split p.count p.none (rw e refl) (rw (nonblank-blank p.taken r e) p.done)
+progress-blank : {F : Type 0} {form : Form F} {has : List Rec → Type 0} {recs rest : List Rec} {r : Rec} {record_number : ℕ}
+    → Progress form has recs (r ∷ rest) record_number → is_blank r ≡ true
+    → Progress form has recs rest (record_number + 1)
+progress-blank {form = form} {has = has} {recs = recs} {rest = rest} {r = r} {record_number = record_number} p e =
+    more form has recs p.taken rest r record_number p.split p.count p.none (rw e refl) (rw (nonblank-blank p.taken r e) p.done)
 
 -- over blank records
 progress-blanks : {F : Type 0} {form : Form F} {has : List Rec → Type 0} {recs rest : List Rec} (blanks : List Rec)
-    (place : ℕ) → nonblank blanks ≡ []
-    → Progress form has recs (blanks ++ rest) place → Progress form has recs rest (place + length blanks)
-progress-blanks [] place b p = rw (plus-zero place) p
-progress-blanks {form = form} {has = has} {recs = recs} {rest = rest} (r ∷ rs) place b p =
-    by (is_blank r) refl (progress-blanks rs (place + 1))
+    (record_number : ℕ) → nonblank blanks ≡ []
+    → Progress form has recs (blanks ++ rest) record_number → Progress form has recs rest (record_number + length blanks)
+progress-blanks [] record_number b p = rw (plus-zero record_number) p
+progress-blanks {form = form} {has = has} {recs = recs} {rest = rest} (r ∷ rs) record_number b p =
+    by (is_blank r) refl (progress-blanks rs (record_number + 1))
   where
     by : (t : Bool) → is_blank r ≡ t
-        → (nonblank rs ≡ [] → Progress form has recs (rs ++ rest) (place + 1)
-        → Progress form has recs rest (place + 1 + length rs))
-        → Progress form has recs rest (place + length (r ∷ rs))
-    by true e go = rw (plus-suc place (length rs)) (go (rw e at b) (progress-blank p e))
+        → (nonblank rs ≡ [] → Progress form has recs (rs ++ rest) (record_number + 1)
+        → Progress form has recs rest (record_number + 1 + length rs))
+        → Progress form has recs rest (record_number + length (r ∷ rs))
+    by true e go = rw (plus-suc record_number (length rs)) (go (rw e at b) (progress-blank p e))
     by false e go = cc (rw e at b)
 
 pub progress-next : {F : Type 0} {form : Form F} {has next : List Rec → Type 0} {recs : List Rec} {old new : Position}
-    → Progress form has recs old.left old.place → MeetsRecord old new
-    → Takes form has next new.row → Progress form next recs new.left new.place
+    → Progress form has recs old.left old.record_number → MeetsRecord old new
+    → Takes form has next new.row → Progress form next recs new.left new.record_number
 progress-next {form = form} {has = has} {next = next} {recs = recs} {old = old} {new = new} before m t =
-    let p = progress-blanks m.blanks old.place m.are_blank (rw m.cut at before) in
+    let p = progress-blanks m.blanks old.record_number m.are_blank (rw m.cut at before) in
     let taken = t (nonblank p.taken) p.done in
     rw m.at
-    (more form next recs p.taken new.left new.row (old.place + length m.blanks) p.split p.count p.none
+    (more form next recs p.taken new.left new.row (old.record_number + length m.blanks) p.split p.count p.none
     (rw m.is_full taken.0) (rw (nonblank-more p.taken new.row m.is_full) taken.1))
 
-first-fault : {F : Type 0} {form : Form F} {has : List Rec → Type 0} {recs rest : List Rec} {r : Rec} {place : ℕ}
-    (f : F) → Progress form has recs (r ∷ rest) place
+first-fault : {F : Type 0} {form : Form F} {has : List Rec → Type 0} {recs rest : List Rec} {r : Rec} {record_number : ℕ}
+    (f : F) → Progress form has recs (r ∷ rest) record_number
     → is_blank r ≡ false → ((before : List Rec) → has before → form before (Some r) ≡ Some f)
-    → IsFirstFault form recs (place + 1) f
+    → IsFirstFault form recs (record_number + 1) f
 first-fault {form = form} {recs = recs} {rest = rest} {r = r} f p e here =
     record {
       within = rw p.split (omega (arith, length-append p.taken (r ∷ rest), p.count));
@@ -109,17 +109,17 @@ first-fault {form = form} {recs = recs} {rest = rest} {r = r} f p e here =
     }
 
 pub progress-fault : {F : Type 0} {form : Form F} {has : List Rec → Type 0} {recs : List Rec} {old new : Position}
-    (f : F) → Progress form has recs old.left old.place → MeetsRecord old new
-    → ((before : List Rec) → has before → form before (Some new.row) ≡ Some f) → IsFirstFault form recs new.place f
+    (f : F) → Progress form has recs old.left old.record_number → MeetsRecord old new
+    → ((before : List Rec) → has before → form before (Some new.row) ≡ Some f) → IsFirstFault form recs new.record_number f
 progress-fault {old = old} f p m here =
-    rw m.at (first-fault f (progress-blanks m.blanks old.place m.are_blank (rw m.cut at p)) m.is_full here)
+    rw m.at (first-fault f (progress-blanks m.blanks old.record_number m.are_blank (rw m.cut at p)) m.is_full here)
 
 pub progress-not-text : {F : Type 0} {form : Form F} {has : List Rec → Type 0} {recs : List Rec} {old new : Position}
-    (f : F) → Progress form has recs old.left old.place → MeetsNotText old new
-    → TellsNotText form f → IsFirstFault form recs new.place f
+    (f : F) → Progress form has recs old.left old.record_number → MeetsNotText old new
+    → TellsNotText form f → IsFirstFault form recs new.record_number f
 progress-not-text {old = old} f p m told =
     rw m.at
-    (first-fault f (progress-blanks m.blanks old.place m.are_blank (rw m.cut at p))
+    (first-fault f (progress-blanks m.blanks old.record_number m.are_blank (rw m.cut at p))
     (not-text-is-full m.bad m.is_not_utf8) (λ before h. told before m.bad m.is_not_utf8))
 
 -- at the end
@@ -128,36 +128,36 @@ fault-past : {F : Type 0} (form : Form F) (recs : List Rec) (k : ℕ) → length
     → fault_at form recs (suc k) ≡ form (nonblank recs) None
 fault-past form recs k h = rw (slice_get_past recs k h, take_all k recs h) refl
 
-all-taken : {F : Type 0} {form : Form F} {has : List Rec → Type 0} {recs : List Rec} {place : ℕ}
-    → Progress form has recs [] place → has (nonblank recs) × (place ≡ length recs)
+all-taken : {F : Type 0} {form : Form F} {has : List Rec → Type 0} {recs : List Rec} {record_number : ℕ}
+    → Progress form has recs [] record_number → has (nonblank recs) × (record_number ≡ length recs)
 all-taken {recs = recs} p = grind (arith, append-nil)
 
 at-end : {F : Type 0} {form : Form F} {has : List Rec → Type 0} {recs : List Rec} {old new : Position}
-    → Progress form has recs old.left old.place → MeetsEnd old new
-    → Progress form has recs [] new.place
-at-end {old = old} p m = rw m.at (progress-blanks old.left old.place m.are_blank (rw (append-nil old.left) p))
+    → Progress form has recs old.left old.record_number → MeetsEnd old new
+    → Progress form has recs [] new.record_number
+at-end {old = old} p m = rw m.at (progress-blanks old.left old.record_number m.are_blank (rw (append-nil old.left) p))
 
 pub progress-end : {F : Type 0} {form : Form F} {has : List Rec → Type 0} {recs : List Rec} {old new : Position} (f : F)
-    → Progress form has recs old.left old.place → MeetsEnd old new
-    → TellsEnd form has (Some f) → IsFirstFault form recs (new.place + 1) f
+    → Progress form has recs old.left old.record_number → MeetsEnd old new
+    → TellsEnd form has (Some f) → IsFirstFault form recs (new.record_number + 1) f
 progress-end {form = form} {recs = recs} {new = new} f before m e =
     let p = at-end before m in
     let all = all-taken p in
     record {
       within = omega (arith, all.1);
-      here = rw (add-one new.place)
-          (fault-past form recs new.place (omega (arith, all.1)) ∙ sym (e (nonblank recs) all.0));
+      here = rw (add-one new.record_number)
+          (fault-past form recs new.record_number (omega (arith, all.1)) ∙ sym (e (nonblank recs) all.0));
       none_before = p.none;
     }
 
 pub progress-none : {F : Type 0} {form : Form F} {has : List Rec → Type 0} {recs : List Rec} {old new : Position}
-    → Progress form has recs old.left old.place → MeetsEnd old new
+    → Progress form has recs old.left old.record_number → MeetsEnd old new
     → TellsEnd form has None → NoFault form recs
 progress-none before m e zero = refl
 progress-none {form = form} {has = has} {recs = recs} {new = new} before m e (suc k) =
-    by (nat_lt k new.place) refl (at-end before m)
+    by (nat_lt k new.record_number) refl (at-end before m)
   where
-    by : (b : Bool) → nat_lt k new.place ≡ b → Progress form has recs [] new.place → fault_at form recs (suc k) ≡ None
-    by true l p = p.none (suc k) (below-more k new.place l)
-    by false l p = fault-past form recs k (past k new.place (length recs) l (all-taken p).1)
+    by : (b : Bool) → nat_lt k new.record_number ≡ b → Progress form has recs [] new.record_number → fault_at form recs (suc k) ≡ None
+    by true l p = p.none (suc k) (below-more k new.record_number l)
+    by false l p = fault-past form recs k (past k new.record_number (length recs) l (all-taken p).1)
         ∙ sym (e (nonblank recs) (all-taken p).0)

@@ -20,7 +20,7 @@ pub fault-last : {F : Type 0} (form : Form F) (recs : List Rec)
 fault-last form recs = grind (arith, take_all, slice_get_past)
 
 abbrev pub HasFirst : {F : Type 0} → Form F → List Rec → Type 0
-HasFirst {F} form recs = (place : ℕ) × (f : F) × IsFirstFault form recs place f
+HasFirst {F} form recs = (record_number : ℕ) × (f : F) × IsFirstFault form recs record_number f
 
 -- no fault stands at the first so many places
 abbrev Clear : {F : Type 0} → Form F → List Rec → ℕ → Type 0

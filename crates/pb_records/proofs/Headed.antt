@@ -305,7 +305,7 @@ clear-from {F} {H} {Q} k pre (r ∷ rs) s t taken text e whole =
         no-end (x ∷ xs) e = cc e
 
 pub states-clear : {F H Q : Type 0} (k : Kind F H Q) (recs : List Rec) → States k recs
-    → (place : ℕ) (f : F) → IsFirstFault (headed_form k) recs place f → ⊥
+    → (record_number : ℕ) (f : F) → IsFirstFault (headed_form k) recs record_number f → ⊥
 states-clear k recs s =
     none-refused (headed_form k) recs
     (clear-from k [] (nonblank recs) (nothing k) s.so_far (nothing-taken k) s.taken.text

@@ -1,5 +1,5 @@
 mod WrittenParts
-mod RecordSteps
+pub mod Csv
 mod RecordsLeft
 pub mod PlainLines
 mod ByteOrderMarks
@@ -16,4 +16,3 @@ pub mod First
 pub mod Clear
 pub mod Headed
 pub mod FlatRuns
-pub mod FlexibleWriter

@@ -18,7 +18,7 @@ use Rattle.pb_money.specs.Whole.{WholeText}
 use Rattle.pb_records.specs.Records.{Rec, csv_settings}
 use Rattle.pb_records.specs.Cells.{clean, is_blank, is_space, is_text}
 use Rattle.pb_records.specs.Inside.Lines.{IsLineEnd, is_plain, lines_left}
-use Rattle.pb_records.proofs.RecordSteps.{records-none, records-some}
+use Rattle.pb_records.proofs.Csv.{records-none, records-some}
 
 abbrev commas : Config
 commas = csv_settings 44

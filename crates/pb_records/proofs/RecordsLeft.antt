@@ -5,50 +5,15 @@ use Rattle.std.specs.List.{list_all}
 use Rattle.std.specs.Str.{IsUtf8, is_utf8}
 use Rattle.std.proofs.lemmas.Bool.{false_from_ne_true}
 use Rattle.std.proofs.lemmas.Str.{IsUtf8-from_is_utf8, is_utf8-from_IsUtf8}
-use Rattle.csv.specs.Machine.{Read, ends_at_end, next_record}
-use Rattle.csv.specs.Reading.{NextIs, ReadRecord, ReadsNext, TookRecord, pending_of, records_from, source_of}
-use Rattle.csv.specs.declared.parser.Config.{Config}
-use Rattle.csv.specs.declared.parser.State.{State}
+use Rattle.csv.specs.Reading.{ReadRecord, TookRecord, pending_of, records_from, source_of}
 use Rattle.csv.specs.declared.reader.Reader.{Reader}
 use Rattle.pb_records.specs.Records.{Rec}
 use Rattle.pb_records.specs.Inside.Lines.{lines_left}
 use Rattle.pb_records.specs.Inside.RecordReader.{Stands, left_in, reader_left}
 use Rattle.pb_records.specs.Cells.{is_text}
 use Rattle.csv.specs.Records.{AllText}
+use Rattle.pb_records.proofs.Csv.{next_none, next_some}
 use Rattle.pb_records.proofs.PlainLines.{nothing-left}
-use Rattle.pb_records.proofs.RecordSteps.{took, records-some, records-none}
-
--- what is left after a record
-record After (cfg : Config) (s : State) (xs : List ℕ) (k : Option (List ℕ)) (fields : Rec) (s2 : State) : Type
-    0 where
-  pub rest : List ℕ
-  pub known : k ≡ Some rest
-  pub records : records_from cfg (length xs + 1) s xs ≡ fields ∷ records_from cfg (length rest + 1) s2 rest
-  pub between : ends_at_end s2 ≡ false
-
-next_is : (cfg : Config) (s : State) (xs : List ℕ) (o : Option Read) (fields : Rec) (s2 : State) (z : List ℕ)
-    → ends_at_end s ≡ false
-    → next_record cfg s [] [] xs ≡ o → NextIs o true fields s2 z → After cfg s xs (Some z) fields s2
-next_is cfg s xs None fields s2 z b e n = cc n
-next_is cfg s xs (Some p) fields s2 z b e n =
-    let r = records-some cfg s xs p b e in
-    let t = took cfg s [] [] xs p e in
-    record { rest = z; known = refl; records = rw (n.1, n.2, n.3) r; between = rw n.2 t.between }
-
-next_some : (cfg : Config) (s : State) (xs : List ℕ) (k : Option (List ℕ)) (fields : Rec) (s2 : State)
-    → ends_at_end s ≡ false
-    → ReadsNext cfg s (Some xs) k true fields s2 → After cfg s xs k fields s2
-next_some cfg s xs None fields s2 b r = absurd r
-next_some cfg s xs (Some z) fields s2 b r = next_is cfg s xs _ fields s2 z b refl r
-
-none_is : (o : Option Read) (fields : Rec) (s2 : State) (z : List ℕ) → NextIs o false fields s2 z → o ≡ None
-none_is None fields s2 z n = refl
-none_is (Some p) fields s2 z n = cc n.0
-
-next_none : (cfg : Config) (s : State) (xs : List ℕ) (k : Option (List ℕ)) (fields : Rec) (s2 : State)
-    → ReadsNext cfg s (Some xs) k false fields s2 → records_from cfg (length xs + 1) s xs ≡ []
-next_none cfg s xs None fields s2 r = absurd r
-next_none cfg s xs (Some z) fields s2 r = records-none cfg s xs (none_is _ fields s2 z r)
 
 -- a read that found a record
 pub read_found : (a b : Reader (Bor (List ℕ))) (fields : Rec) → Stands a → ReadRecord left_in a b true fields

@@ -16,7 +16,7 @@ use std::marker::Model;
 pub struct Cursor<'a> {
     records: Records<'a>,
     row: StringRecord,
-    place: u64,
+    record_number: u64,
 }
 
 impl<'a> Model for Cursor<'a> {
@@ -26,21 +26,21 @@ impl<'a> Model for Cursor<'a> {
 
     ghost Value = { Position };
 
-    ghost view = { λ a. record { place = a.place; row = fields_of a.row; left = a.records } };
+    ghost view = { λ a. record { record_number = a.record_number; row = fields_of a.row; left = a.records } };
 
-    ghost invariant = { λ a. a.place + length a.records ≤ 2 ^ 63 };
+    ghost invariant = { λ a. a.record_number + length a.records ≤ 2 ^ 63 };
 }
 
 impl<'a> Cursor<'a> {
     /// Before the first record of a file whose fields are separated by the delimiter.
     pub fn open(alloc: Global, bytes: &'a [u8], delimiter: u8) -> Cursor<'a>
-        ensures place { result.place ≡ 0 }
+        ensures record_number { result.record_number ≡ 0 }
         ensures left { result.left ≡ records_of delimiter bytes.now }
     {
         Cursor {
             records: Records::open(alloc, bytes, delimiter),
             row: StringRecord::new(alloc),
-            place: 0,
+            record_number: 0,
         }
     }
 
@@ -55,10 +55,10 @@ impl<'a> Cursor<'a> {
             match next {
                 Next::End => return Ok(Next::End),
                 Next::NotText => {
-                    self.place += 1;
+                    self.record_number += 1;
                     return Ok(Next::NotText);
                 }
-                Next::Record => self.place += 1,
+                Next::Record => self.record_number += 1,
             }
             if !is_blank(&self.row) {
                 return Ok(Next::Record);
@@ -73,7 +73,7 @@ impl<'a> Cursor<'a> {
         ensures { MatchOption result (self.new ≡ self.old) (λ triple. MeetsTriple triple self.old self.new) }
     {
         let triple = self.records.take_triple()?;
-        self.place += 1;
+        self.record_number += 1;
         Some(triple)
     }
 
@@ -84,12 +84,12 @@ impl<'a> Cursor<'a> {
         &self.row
     }
 
-    /// How many records lie behind, blank ones too: the place of the record that was met last, from 1. The end of the
-    /// file has the next place.
-    pub fn place(&self) -> u64
-        ensures value { result ≡ self.now.place }
+    /// How many records lie behind, blank ones too: the number of the record that was met last, from 1. The end of the
+    /// file has the next number.
+    pub fn record_number(&self) -> u64
+        ensures value { result ≡ self.now.record_number }
         ensures few { result ≤ 2 ^ 63 }
     {
-        self.place
+        self.record_number
     }
 }

@@ -20,14 +20,14 @@ pub enum Stop<F> {
     Memory,
 }
 
-/// A fault and the place where it stands. The records have the places from 1 on, blank ones too, and the end of the
+/// A fault and where it stands. The records have the numbers from 1 on, blank ones too, and the end of the
 /// file has the next.
 #[derive(Clone, Copy, Debug, PartialEq, Eq)]
 pub struct FaultAt<F> {
-    /// The fault; of several at this place, the one with the lowest number.
+    /// The fault; of several at this record, the one with the lowest number.
     pub fault: F,
-    /// The place, from 1.
-    pub place: u64,
+    /// The number of the record, from 1.
+    pub record_number: u64,
 }
 
 /// What is built from the records of one kind of file, one record at a time. Blank records do not reach it. `A` is what
@@ -59,7 +59,7 @@ pub trait Draft<A> {
 }
 
 /// Reads a file, whose fields the delimiter divides, into a draft that has taken no record yet. A fault is that at the
-/// least place and, of several there, the one with the lowest number. `Memory` comes only after a failed allocation,
+/// first record that has one and, of several there, the one with the lowest number. `Memory` comes only after a failed allocation,
 /// which is tested and not proved. After an error it is left open what the draft has taken.
 pub fn take_all<A, D: Draft<A>>(
     alloc: Global,
@@ -84,7 +84,7 @@ fn take_records<A, D: Draft<A>>(
     draft: &mut D,
 ) -> Result<(), Stop<FaultAt<D::Fault>>>
     requires none { D.HasTaken against.now draft.old [] }
-    requires first { cursor.old.place ≡ 0 }
+    requires first { cursor.old.record_number ≡ 0 }
     ensures taken { OnOk result (D.HasTaken against.now draft.new (nonblank cursor.old.left)) }
     ensures none { OnOk result (NoFault (D.form against.now) cursor.old.left) }
     ensures stopped { IfErr result (λ stop. StopsFirst (D.form against.now) cursor.old.left stop) }
@@ -95,7 +95,7 @@ fn take_records<A, D: Draft<A>>(
             Ok(Next::End) => break,
             Ok(Next::NotText) => return Err(Stop::Fault(FaultAt {
                 fault: draft.not_text(against),
-                place: cursor.place(),
+                record_number: cursor.record_number(),
             })),
             Ok(Next::Record) => {}
         }
@@ -104,7 +104,7 @@ fn take_records<A, D: Draft<A>>(
             Err(Stop::Memory) => return Err(Stop::Memory),
             Err(Stop::Fault(fault)) => return Err(Stop::Fault(FaultAt {
                 fault,
-                place: cursor.place(),
+                record_number: cursor.record_number(),
             })),
         }
     }
@@ -112,7 +112,7 @@ fn take_records<A, D: Draft<A>>(
         None => Ok(()),
         Some(fault) => Err(Stop::Fault(FaultAt {
             fault,
-            place: cursor.place() + 1,
+            record_number: cursor.record_number() + 1,
         })),
     }
 }

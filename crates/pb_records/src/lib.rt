@@ -7,14 +7,14 @@ mod cursor;
 mod drafts;
 mod lines;
 mod loading;
+mod ragged_array;
 pub mod record_writer;
 mod records;
-mod runs;
 
 pub use cells::{cell, clean, is_blank, is_blank_from};
 pub use cursor::Cursor;
 pub use drafts::{Draft, FaultAt, Stop, take_all};
 pub use lines::Triple;
 pub use loading::{Input, LoadFault, Output, PutFault, Sink, Source, load, put};
+pub use ragged_array::RaggedArray;
 pub use records::Next;
-pub use runs::Runs;

@@ -15,12 +15,11 @@ use Rattle.pb_cohesion.specs.declared.RefutationVerdict.TheVariants as refutatio
 use Rattle.pb_cohesion.proofs.Refuted.{says-asked}
 use Rattle.pb_cohesion.proofs.Refuting.{none_support, none_with_cover_support}
 use Rattle.pb_cohesion.proofs.RefutingStable.{none_stable_support, none_stable_with_cover_support, stable-from-plain}
-use Rattle.pb_cohesion.proofs.Shares.{demands_reach, no_demand_passed_over}
 use Rattle.pb_cohesion.proofs.Verdicts.{through, violates-iff}
 use Rattle.pb_price.specs.First.{First, verdict_of}
 use Rattle.pb_price.specs.declared.Failure.{Failure}
 use Rattle.pb_price.specs.declared.Mode.{Mode}
-use Rattle.pb_price.proofs.Groups.{budgets, ejr-plus, fair, groups, no-violation, passes-nobody-over, plain-no, plain-yes, shares, stable-no, stable-yes, unrefuted, unrefuted-stable}
+use Rattle.pb_price.proofs.Groups.{all-promised, plain-no, stable-no}
 use Rattle.pb_price.proofs.FirstFalse.{supports-iff}
 use Rattle.pb_certificate.specs.declared.kind.Kind.{Kind}
 use Rattle.pb_certificate.specs.declared.kind.Kind.TheVariants as kind
@@ -48,37 +47,13 @@ prices_promise m input e w d p given = by_first (First m e w p) refl
     by_first : (f : Option Failure) → First m e w p ≡ f → PricesPromise m (price_status (verdict_of f)) e w p
     by_first None is = record {
       exactly = (λ yes'. (supports-iff m e w p).0 is, λ s. refl);
-      plain_yes = λ yes' plain. plain-yes m e w p is plain;
-      stable_yes = λ yes' stable. stable-yes m e w p is stable;
-      any_yes = λ yes'. budgets m e w p is;
-      share_yes = λ yes' reached. shares m e w p low is reached;
-      groups_yes = λ yes'. groups m e w p low is;
-      pjr_plus_yes = λ yes' strict. passes-nobody-over m e w p low is strict;
-      demand_yes = λ yes' reached. demands_reach e w (shares m e w p low is reached);
-      pjr_yes = λ yes' strict. no_demand_passed_over e w (passes-nobody-over m e w p low is strict);
-      unrefuted_yes = λ yes'. unrefuted m e w p low is;
-      unrefuted_stable_yes = λ yes' stable. unrefuted-stable m e w p low is stable;
-      fair_yes = λ yes' stable. fair m e w p is stable;
-      covered_yes = λ yes' stable strict. no-violation m e w p low is stable strict;
-      ejr_plus_yes = λ yes' stable strict. ejr-plus m e w p low is stable strict;
+      yes = λ yes'. all-promised m e w p low is;
       plain_no = λ c h. plain-no m e w p c h;
       stable_no = λ c h. stable-no m e w p c h;
     }
     by_first (Some f) is = record {
       exactly = (λ yes'. no-yes yes', λ s. let none : First m e w p ≡ None = (supports-iff m e w p).1 s in cc);
-      plain_yes = λ yes' plain. no-yes yes';
-      stable_yes = λ yes' stable. no-yes yes';
-      any_yes = λ yes'. no-yes yes';
-      share_yes = λ yes' reached. no-yes yes';
-      groups_yes = λ yes'. no-yes yes';
-      pjr_plus_yes = λ yes' strict. no-yes yes';
-      demand_yes = λ yes' reached. no-yes yes';
-      pjr_yes = λ yes' strict. no-yes yes';
-      unrefuted_yes = λ yes'. no-yes yes';
-      unrefuted_stable_yes = λ yes' stable. no-yes yes';
-      fair_yes = λ yes' stable. no-yes yes';
-      covered_yes = λ yes' stable strict. no-yes yes';
-      ejr_plus_yes = λ yes' stable strict. no-yes yes';
+      yes = λ yes'. no-yes yes';
       plain_no = λ c h. plain-no m e w p c h;
       stable_no = λ c h. stable-no m e w p c h;
     }

@@ -10,8 +10,8 @@ use Rattle.pb_certificate.proofs.Unique.{group-text-sets}
 use Rattle.pb_reply.specs.Inputs.{StatesOutcome}
 use Rattle.pb_reply.specs.Turns.{file_turn, turn}
 use Rattle.pb_reply.specs.Inside.Taking.{AuditsOutcome, Gives, GivesOutcome, IfTaken}
-use Rattle.pb_reply.specs.declared.stop.Stop.{Stop}
-use Rattle.pb_reply.specs.declared.stop.Stop.TheVariants as stop
+use Rattle.pb_reply.specs.declared.unanswered.Unanswered.{Unanswered}
+use Rattle.pb_reply.specs.declared.unanswered.Unanswered.TheVariants as unanswered
 
 -- what is demanded is a set of projects
 pub demand_set : (bytes : List ℕ) (e : Instance) (m : Measure) (group demand : List ℕ)
@@ -19,25 +19,25 @@ pub demand_set : (bytes : List ℕ) (e : Instance) (m : Measure) (group demand :
 demand_set bytes e m group demand text = (group-text-sets (certificate_records bytes) e m group demand text).1
 
 -- the outcome that is audited, by the outcome file that was taken, or by the election's own
-pub file_audited : (e : Instance) (outcome : Option Delivery) (d : Delivery) (taken : Result (List Bool) Stop)
+pub file_audited : (e : Instance) (outcome : Option Delivery) (d : Delivery) (taken : Result (List Bool) Unanswered)
     → outcome ≡ Some d → IfTaken taken (StatesOutcome e d) → IfTaken taken (AuditsOutcome e outcome)
 file_audited e outcome d taken is states =
     subst (λ (o : Option Delivery). IfTaken taken (AuditsOutcome e o)) (sym is) (go taken states)
   where
-    go : (r : Result (List Bool) Stop) → IfTaken r (StatesOutcome e d) → IfTaken r (AuditsOutcome e (Some d))
+    go : (r : Result (List Bool) Unanswered) → IfTaken r (StatesOutcome e d) → IfTaken r (AuditsOutcome e (Some d))
     go (Ok marks) s = record { file = Some (Ok marks); given = s; is = refl }
-    go (Err (stop.Refused r)) s = record { file = Some (Err r); given = s; is = refl }
-    go (Err stop.Memory) s = tt
+    go (Err (unanswered.Refused r)) s = record { file = Some (Err r); given = s; is = refl }
+    go (Err unanswered.Memory) s = tt
 
 -- the same where the turn of the outcome file came
 pub file_given : {I : Type 0} (delivers : I → I → Delivery → Type 0) (e : Instance) (old : Option I) (file new : I)
-    (taken : Result (List Bool) Stop) → old ≡ Some file
+    (taken : Result (List Bool) Unanswered) → old ≡ Some file
     → IfTaken taken (Gives (StatesOutcome e) (turn delivers file new))
     → IfTaken taken (GivesOutcome e (file_turn delivers old (Some new)))
 file_given {I} delivers e old file new taken is from =
     subst (λ (o : Option I). IfTaken taken (GivesOutcome e (file_turn delivers o (Some new)))) (sym is) (go taken from)
   where
-    go : (r : Result (List Bool) Stop) → IfTaken r (Gives (StatesOutcome e) (turn delivers file new))
+    go : (r : Result (List Bool) Unanswered) → IfTaken r (Gives (StatesOutcome e) (turn delivers file new))
         → IfTaken r (GivesOutcome e (file_turn delivers (Some file) (Some new)))
     go (Ok marks) g =
         record {
@@ -45,10 +45,10 @@ file_given {I} delivers e old file new taken is from =
           delivered = g.delivered;
           audits = record { file = Some (Ok marks); given = g.stating; is = refl };
         }
-    go (Err (stop.Refused r)) g =
+    go (Err (unanswered.Refused r)) g =
         record {
           delivery = Some g.delivery;
           delivered = g.delivered;
           audits = record { file = Some (Err r); given = g.stating; is = refl };
         }
-    go (Err stop.Memory) g = tt
+    go (Err unanswered.Memory) g = tt

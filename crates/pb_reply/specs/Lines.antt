@@ -21,7 +21,7 @@ use Rattle.pb_price.specs.declared.Failure.TheVariants as failure
 use Rattle.pb_price.specs.declared.Verdict.{Verdict}
 use Rattle.pb_price.specs.declared.Verdict.TheVariants as verdict
 use Rattle.pb_records.specs.Records.{Text}
-use Rattle.pb_input.specs.Faults.{fault_name, fault_number, fault_place, name_of}
+use Rattle.pb_input.specs.Faults.{fault_name, fault_number, fault_record, name_of}
 use Rattle.pb_input.specs.declared.InputRefusal.{InputRefusal}
 
 -- how many projects are funded, where the election says which
@@ -155,4 +155,4 @@ groups_line m e (groups_verdict.Failed c k) = groups_failed_line (measure_words 
 -- the line of a refusal
 abbrev pub refusal_line : InputRefusal → Text
 refusal_line r = codes "refused " ++ name_of r.input ++ codes " " ++ decimal (fault_number r.fault) ++ codes " "
-    ++ fault_name r.fault ++ codes " record " ++ decimal (fault_place r.fault)
+    ++ fault_name r.fault ++ codes " record " ++ decimal (fault_record r.fault)

@@ -1,17 +1,16 @@
 -- What the status of an audit promises of what the inputs state.
-use Rattle.std.specs.Prelude.{◌≡◌, ◌<◌, ◌↔◌, ℕ, IsFalse, IsTrue, Bool, List, length, Some}
+use Rattle.std.specs.Prelude.{◌≡◌, ◌<◌, ◌↔◌, ℕ, Bool, List, length, Some}
 use Rattle.pb_election.specs.Instance.{Instance}
 use Rattle.pb_certificate.specs.Prices.{Prices}
 use Rattle.pb_certificate.specs.Refutations.{Weights}
 use Rattle.pb_certificate.specs.declared.violations.measure.Measure.{Measure}
-use Rattle.pb_certificate.specs.declared.violations.measure.Measure.TheVariants.{ByCount}
-use Rattle.pb_cohesion.specs.EveryGroup.{BudgetsAreWithinReach, BudgetsReachTheLimit, DemandsAreWithinReach, GroupsGetTheirShare, NoDemandIsPassedOver, NoGroupHasMoreLeft, NoGroupIsPassedOver, NoViolationByCounting, NothingBlocks, SharesAreWithinReach, SupportersBlock, SupportersHaveMoreLeft}
+use Rattle.pb_cohesion.specs.EveryGroup.{SupportersBlock, SupportersHaveMoreLeft}
 use Rattle.pb_cohesion.specs.Groups.{Violates}
-use Rattle.pb_cohesion.specs.Refutations.{NoPricesSupport, NoPricesWithCoverSupport, NoStablePricesSupport, NoStablePricesWithCoverSupport, NothingRefutes, NothingRefutesStable, Refutes, RefutesAsked}
+use Rattle.pb_cohesion.specs.Refutations.{NoPricesSupport, NoPricesWithCoverSupport, NoStablePricesSupport, NoStablePricesWithCoverSupport, Refutes, RefutesAsked}
 use Rattle.pb_cohesion.specs.Satisfactions.{worth_by}
 use Rattle.pb_cohesion.specs.Short.{SatisfiesEjrPlus, IsFirstShort}
 use Rattle.pb_price.specs.First.{First}
-use Rattle.pb_price.specs.OnGroups.{HoldsOfGroups, IsStrict, groups_by}
+use Rattle.pb_price.specs.Promises.{YesPromises}
 use Rattle.pb_price.specs.Supports.{Supports}
 use Rattle.pb_price.specs.declared.Failure.TheVariants as failure
 use Rattle.pb_price.specs.declared.Mode.{Mode}
@@ -24,19 +23,7 @@ use Rattle.pb_reply.specs.declared.status.Unmet.TheVariants as unmet
 -- voters and of every refutation, and a no by the last condition of the supporters of the project that it names.
 pub record PricesPromise (m : Mode) (status : Status) (e : Instance) (w : List Bool) (p : Prices) : Type 0 where
   pub exactly : (status ≡ Yes) ↔ Supports m e w p
-  pub plain_yes : status ≡ Yes → IsFalse m.stable → NoGroupHasMoreLeft e w p
-  pub stable_yes : status ≡ Yes → IsTrue m.stable → NothingBlocks e w p
-  pub any_yes : status ≡ Yes → BudgetsAreWithinReach e w p
-  pub share_yes : status ≡ Yes → BudgetsReachTheLimit e p → SharesAreWithinReach e w
-  pub groups_yes : status ≡ Yes → HoldsOfGroups (groups_by m e p) e w
-  pub pjr_plus_yes : status ≡ Yes → IsStrict m e p → NoGroupIsPassedOver e w
-  pub demand_yes : status ≡ Yes → BudgetsReachTheLimit e p → DemandsAreWithinReach e w
-  pub pjr_yes : status ≡ Yes → IsStrict m e p → NoDemandIsPassedOver e w
-  pub fair_yes : status ≡ Yes → IsTrue m.stable → GroupsGetTheirShare e w p
-  pub covered_yes : status ≡ Yes → IsTrue m.stable → IsStrict m e p → NoViolationByCounting e w
-  pub ejr_plus_yes : status ≡ Yes → IsTrue m.stable → IsStrict m e p → SatisfiesEjrPlus ByCount e w
-  pub unrefuted_yes : status ≡ Yes → NothingRefutes m.cover e w
-  pub unrefuted_stable_yes : status ≡ Yes → IsTrue m.stable → NothingRefutesStable m.cover e w
+  pub yes : status ≡ Yes → YesPromises m e w p
   pub plain_no : (c : ℕ) → First m e w p ≡ Some (failure.C5 c) → SupportersHaveMoreLeft e p c
   pub stable_no : (c : ℕ) → First m e w p ≡ Some (failure.S5 c) → SupportersBlock e w p c
 

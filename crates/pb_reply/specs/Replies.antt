@@ -1,5 +1,6 @@
 -- Replies and answers: what is found of some inputs, as lines, as a JSON object or as a text, and how it ends.
 use Rattle.std.specs.Prelude.{◌≡◌, List, [], ◌∷◌, ◌++◌, flat_map, Ok, Err}
+use Rattle.std.specs.List.{AllByRecursion}
 use Rattle.serde_json.specs.Written.{compact_text}
 use Rattle.pb_records.specs.Records.{Text}
 use Rattle.pb_certificate.specs.Prices.Canon.{line_end}
@@ -12,6 +13,7 @@ use Rattle.pb_cohesion.specs.declared.ViolationVerdict.TheVariants as violation_
 use Rattle.pb_price.specs.declared.Verdict.{Verdict}
 use Rattle.pb_price.specs.declared.Verdict.TheVariants as verdict
 use Rattle.pb_json.specs.Answers.{refusal_json}
+use Rattle.pb_json.specs.Texts.{IsJson}
 use Rattle.pb_reply.specs.Inputs.{Stated}
 use Rattle.pb_reply.specs.Lines.{refusal_line}
 use Rattle.pb_input.specs.declared.InputRefusal.{InputRefusal}
@@ -44,6 +46,10 @@ abbrev pub answer_as : Format → Reply → Answer Status
 answer_as Lines reply = answer_of reply
 answer_as Json reply = record { text = text_of (reply.json ∷ []); status = reply.status }
 answer_as JsonAndLines reply = record { text = text_of (reply.json ∷ reply.lines); status = reply.status }
+
+-- each line of a text is one value in JSON
+abbrev pub AreJsonLines : Text → Type 0
+AreJsonLines text = (lines : List Text) × ((text ≡ text_of lines) × AllByRecursion IsJson lines)
 
 -- the reply on an input that is refused: the line of the refusal, the same as an object, and the refusal
 abbrev pub refused : InputRefusal → Reply

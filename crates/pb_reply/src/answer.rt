@@ -1,15 +1,16 @@
 //! Replies, the texts that are made of them, and how a text is written.
 ghost use Rattle.std.specs.Prelude.{◌≡◌, ◌∷◌, ◌++◌, [], IfOk, OnOk, Some, map, string_bytes};
-ghost use Rattle.pb_reply.specs.Replies.{answer_as, answer_of, text_of};
+ghost use Rattle.pb_reply.specs.Replies.{AreJsonLines, answer_as, answer_of, text_of};
 ghost use Rattle.pb_reply.specs.Replies as replies;
 ghost use Rattle.pb_reply.specs.Inside.Taking as spec;
 ghost use Rattle.pb_reply.specs.Writing.{Writes};
+ghost use Rattle.pb_reply.specs.declared.answer.Format.TheVariants.{Json};
 
 use crate::lines::{push_line, refusal_line};
-use crate::{Fault, Status, Stop};
+use crate::{Fault, Status, Unanswered};
 use pb_election::{Sink, put};
 use pb_input::InputRefusal;
-use pb_json::{json_text, refusal_json};
+use pb_json::{Object, refusal_json};
 use std::alloc::{AllocError, Global};
 use std::marker::Model;
 
@@ -29,8 +30,8 @@ pub enum Format {
 pub struct Reply {
     /// The lines, each without its end.
     pub lines: Vec<String>,
-    /// The object, as a text without the end of its line.
-    pub json: String,
+    /// The object.
+    pub object: Object,
     /// How it ends.
     pub status: Status,
 }
@@ -41,27 +42,21 @@ impl Model for Reply {
 
     ghost Value = { Reply };
 
-    ghost view = { λ r. record { lines = map string_bytes r.lines.items; json = string_bytes r.json; status = r.status } };
+    ghost view = { λ r. record { lines = map string_bytes r.lines.items; json = r.object; status = r.status } };
 }
 
 impl Reply {
     /// The text of the reply in a format.
     pub fn answer_as(&self, alloc: Global, format: Format) -> Result<Answer<Status>, AllocError>
-        ensures { IfOk result (λ answer. answer ≡ answer_as format self.now) }
+        ensures text { IfOk result (λ answer. answer ≡ answer_as format self.now) }
+        ensures json { format ≡ Json → IfOk result (λ answer. AreJsonLines answer.text) }
     {
         match format {
             Format::Lines => self.answer(alloc),
-            Format::Json => {
-                let mut text = String::new(alloc);
-                push_line(&mut text, &self.json)?;
-                Ok(Answer {
-                    text: text.into_bytes(),
-                    status: self.status,
-                })
-            }
+            Format::Json => self.object_answer(alloc),
             Format::JsonAndLines => {
                 let mut text = String::new(alloc);
-                push_line(&mut text, &self.json)?;
+                push_line(&mut text, &self.object.text(alloc)?)?;
                 push_lines(&mut text, &self.lines)?;
                 Ok(Answer {
                     text: text.into_bytes(),
@@ -69,6 +64,20 @@ impl Reply {
                 })
             }
         }
+    }
+
+    /// The text of the object alone, in a line.
+    fn object_answer(&self, alloc: Global) -> Result<Answer<Status>, AllocError>
+        ensures text { IfOk result (λ answer. answer ≡ answer_as Json self.now) }
+        ensures json { IfOk result (λ answer. AreJsonLines answer.text) }
+    {
+        let object = self.object.text(alloc)?;
+        let mut text = String::new(alloc);
+        push_line(&mut text, &object)?;
+        Ok(Answer {
+            text: text.into_bytes(),
+            status: self.status,
+        })
     }
 
     /// The text of the reply: each line with its end, LF.
@@ -122,11 +131,11 @@ impl<S: Copy> Answer<S> {
 }
 
 /// What is told of a reply: itself, or its text as lines.
-pub trait Telling: Sized + Drop {
+pub trait FromReply: Sized + Drop {
     ghost told: { replies.Reply → Self };
 
     /// What is told of this reply.
-    fn tell(alloc: Global, reply: Reply) -> Result<Self, AllocError>
+    fn from_reply(alloc: Global, reply: Reply) -> Result<Self, AllocError>
         ensures { IfOk result (λ own. own ≡ told reply) };
 
     /// The answer on the replies of which this is told.
@@ -134,10 +143,10 @@ pub trait Telling: Sized + Drop {
         ensures { (reply : replies.Reply) → self ≡ told reply → IfOk result (λ answer. answer ≡ answer_of reply) };
 }
 
-impl Telling for Reply {
+impl FromReply for Reply {
     ghost told = { λ reply. reply };
 
-    fn tell(_alloc: Global, reply: Reply) -> Result<Reply, AllocError> {
+    fn from_reply(_alloc: Global, reply: Reply) -> Result<Reply, AllocError> {
         Ok(reply)
     }
 
@@ -146,10 +155,10 @@ impl Telling for Reply {
     }
 }
 
-impl Telling for Answer<Status> {
+impl FromReply for Answer<Status> {
     ghost told = { answer_of };
 
-    fn tell(alloc: Global, reply: Reply) -> Result<Answer<Status>, AllocError> {
+    fn from_reply(alloc: Global, reply: Reply) -> Result<Answer<Status>, AllocError> {
         reply.answer(alloc)
     }
 
@@ -159,22 +168,22 @@ impl Telling for Answer<Status> {
 }
 
 /// What the work on some inputs came to: its own, or what is told of the line of the input that was refused.
-pub fn settled<T: Telling>(alloc: Global, work: Result<T, Stop>) -> Result<T, AllocError>
-    ensures { IfOk result (λ own. spec.settled T.told work ≡ Some own) }
+pub fn or_refusal<T: FromReply>(alloc: Global, work: Result<T, Unanswered>) -> Result<T, AllocError>
+    ensures { IfOk result (λ own. spec.or_refusal T.told work ≡ Some own) }
 {
     match work {
         Ok(own) => Ok(own),
-        Err(stop) => T::tell(alloc, stopped(alloc, &stop)?),
+        Err(why) => T::from_reply(alloc, reply_why(alloc, &why)?),
     }
 }
 
 /// The line of the input that was refused.
-pub fn stopped(alloc: Global, stop: &Stop) -> Result<Reply, AllocError>
-    ensures { IfOk result (λ reply. spec.stopped stop.now ≡ Some reply) }
+pub fn reply_why(alloc: Global, why: &Unanswered) -> Result<Reply, AllocError>
+    ensures { IfOk result (λ reply. spec.reply_why why.now ≡ Some reply) }
 {
-    match stop {
-        Stop::Refused(refusal) => refused(alloc, *refusal),
-        Stop::Memory => Err(AllocError {}),
+    match why {
+        Unanswered::Refused(refusal) => refused(alloc, *refusal),
+        Unanswered::Memory => Err(AllocError {}),
     }
 }
 
@@ -183,25 +192,24 @@ pub fn refused(alloc: Global, refusal: InputRefusal) -> Result<Reply, AllocError
     ensures { IfOk result (λ reply. reply ≡ replies.refused refusal) }
 {
     let line = refusal_line(alloc, &refusal)?;
-    let object = refusal_json(alloc, &refusal)?;
-    let json = json_text(alloc, &object)?;
-    one_line(alloc, line, json, Status::Refused(refusal))
+    let object = Object::new(refusal_json(alloc, &refusal)?);
+    one_line(alloc, line, object, Status::Refused(refusal))
 }
 
-/// A reply of one line, and of the same as the text of a JSON object.
+/// A reply of one line, and of the same as a JSON object.
 pub fn one_line(
     alloc: Global,
     line: String,
-    json: String,
+    object: Object,
     status: Status,
 ) -> Result<Reply, AllocError>
-    ensures { IfOk result (λ reply. reply ≡ record { lines = string_bytes line ∷ []; json = string_bytes json; status = status }) }
+    ensures { IfOk result (λ reply. reply ≡ record { lines = string_bytes line ∷ []; json = object; status = status }) }
 {
     let mut lines = Vec::new(alloc);
     lines.push(line)?;
     Ok(Reply {
         lines,
-        json,
+        object,
         status,
     })
 }

@@ -9,19 +9,19 @@ use pb_election::Source;
 use std::alloc::{AllocError, Global};
 
 /// What was taken of an input.
-pub trait Lend {
+pub trait AsFile {
     // What was delivered of the input.
     ghost delivery: { Self → Delivery };
 
     /// The file, its bytes lent.
-    fn lend(&self) -> File<'_>
+    fn as_file(&self) -> File<'_>
         ensures { lent result ≡ delivery self.now };
 }
 
 /// An input as it is given.
 pub trait Given {
     // What is taken of it.
-    type Taken: Lend + Drop;
+    type Taken: AsFile + Drop;
 
     // That it delivers this, by what it was before and is after.
     ghost delivers: { Self → Self → Delivery → Type 0 };
@@ -31,10 +31,10 @@ pub trait Given {
         ensures { IfOk result (λ taken. delivers self.old self.new (Self.Taken.delivery taken)) };
 }
 
-impl Lend for Loaded {
+impl AsFile for Loaded {
     ghost delivery = { delivery_of };
 
-    fn lend(&self) -> File<'_> {
+    fn as_file(&self) -> File<'_> {
         match self {
             Loaded::Bytes(bytes) => File::in_memory(bytes),
             Loaded::Unread => File::Unread,
@@ -43,10 +43,10 @@ impl Lend for Loaded {
     }
 }
 
-impl<'a> Lend for File<'a> {
+impl<'a> AsFile for File<'a> {
     ghost delivery = { lent };
 
-    fn lend(&self) -> File<'_> {
+    fn as_file(&self) -> File<'_> {
         *self
     }
 }

@@ -6,19 +6,19 @@ mod given;
 mod lines;
 mod loaded;
 mod status;
-mod stop;
 mod taking;
+mod unanswered;
 mod verdict_lines;
 
-pub use answer::{Answer, Format, Reply, Telling, one_line, refused, settled, stopped};
-pub use given::{Given, Lend};
+pub use answer::{Answer, Format, FromReply, Reply, one_line, or_refusal, refused, reply_why};
+pub use given::{AsFile, Given};
 pub use lines::{push_limit_note, push_line, push_notes, read_line};
 pub use loaded::{File, Loaded, bytes_of};
 pub use status::{Fault, Status, Unmet};
-pub use stop::{Stop, stop_at};
 pub use taking::{
     election_of, kind_in, outcome_of, refutation_of, take_election, take_outcome, violation_of,
 };
+pub use unanswered::{Unanswered, unanswered_at};
 pub use verdict_lines::{
     groups_line, groups_status, price_line, price_status, refutation_line, refutation_status,
     violation_line, violation_status,

@@ -179,9 +179,9 @@ pub(crate) fn refusal_line(alloc: Global, refusal: &InputRefusal) -> Result<Stri
     ensures { IfOk result (λ line. string_bytes line ≡ spec.refusal_line refusal.now) }
 {
     let InputRefusal { input, fault } = refusal;
-    let (number, fault_name, place) = (fault.number(), fault.name(), fault.place());
+    let (number, fault_name, record_number) = (fault.number(), fault.name(), fault.record_number());
     format!(in alloc;
-        "refused {} {number} {fault_name} record {place}",
+        "refused {} {number} {fault_name} record {record_number}",
         input.name()
     )
 }

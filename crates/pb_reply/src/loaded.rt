@@ -6,7 +6,7 @@ ghost use Rattle.pb_reply.specs.Inputs.{in_memory, most_bytes};
 ghost use Rattle.pb_reply.specs.Inside.Loaded.{delivery_of, lent};
 ghost use Rattle.pb_reply.specs.Inside.Taking.{IsUnloaded};
 
-use crate::Stop;
+use crate::Unanswered;
 use pb_election::{LoadFault, Source, load};
 use pb_input::{InputFault, InputName, InputRefusal};
 use std::alloc::{AllocError, Global};
@@ -61,17 +61,17 @@ impl<'a> File<'a> {
 }
 
 /// The bytes of an input of this name, where they are there.
-pub fn bytes_of<'a>(input: InputName, file: File<'a>) -> Result<&'a [u8], Stop>
+pub fn bytes_of<'a>(input: InputName, file: File<'a>) -> Result<&'a [u8], Unanswered>
     ensures bytes { IfOk result (λ bytes. lent file.entry ≡ delivery.Bytes bytes.now) }
     ensures refused { IfErr result (IsUnloaded input (lent file.entry)) }
 {
     match file {
         File::Bytes(bytes) => Ok(bytes),
-        File::Unread => Err(Stop::Refused(InputRefusal {
+        File::Unread => Err(Unanswered::Refused(InputRefusal {
             input,
             fault: InputFault::Unread,
         })),
-        File::TooLong => Err(Stop::Refused(InputRefusal {
+        File::TooLong => Err(Unanswered::Refused(InputRefusal {
             input,
             fault: InputFault::TooLong,
         })),

@@ -43,7 +43,7 @@ pub enum Unmet {
 /// Why an answer was not written whole.
 #[derive(Clone, Copy, Debug, PartialEq, Eq, Error)]
 pub enum Fault {
-    /// Out of memory. Nothing was written. That this comes only after a failed allocation is tested, not proved.
+    /// Out of memory. Nothing was written, or of a folder's objects the first ones. That this comes only after a failed allocation is tested, not proved.
     #[error("fault memory")]
     Memory,
     /// The writer failed. A front of the text was written.

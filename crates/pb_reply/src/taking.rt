@@ -10,22 +10,22 @@ ghost use Rattle.pb_reply.specs.Inside.Loaded.{lent};
 ghost use Rattle.pb_reply.specs.Turns.{file_turn, turn};
 ghost use Rattle.pb_reply.specs.Inside.Taking.{AuditsOutcome, Gives, GivesOutcome, IfTaken, as_marks, claimed};
 
-use crate::given::{Given, Lend};
+use crate::given::{AsFile, Given};
 use crate::loaded::{File, bytes_of};
-use crate::stop::{Stop, stop_at};
+use crate::unanswered::{Unanswered, unanswered_at};
 use pb_certificate::{Kind, Refutation, Violation, kind_of, read_outcome};
 use pb_election::{Election, Outcome};
 use pb_input::{InputFault, InputName};
 use std::alloc::{AllocError, Global};
 
 /// The election that a file states.
-pub fn election_of(alloc: Global, file: File<'_>) -> Result<Election, Stop>
+pub fn election_of(alloc: Global, file: File<'_>) -> Result<Election, Unanswered>
     ensures { IfTaken result (StatesElection (lent file.entry)) }
 {
     let bytes = bytes_of(InputName::Election, file)?;
     match Election::read(alloc, bytes) {
         Ok(election) => Ok(election),
-        Err(refusal) => Err(stop_at(InputName::Election, InputFault::Election(refusal))),
+        Err(refusal) => Err(unanswered_at(InputName::Election, InputFault::Election(refusal))),
     }
 }
 
@@ -46,7 +46,7 @@ pub fn violation_of(
     input: InputName,
     file: File<'_>,
     election: &Election,
-) -> Result<Violation, Stop>
+) -> Result<Violation, Unanswered>
     ensures taken { IfTaken (claimed result) (StatesViolation input election.now (lent file.entry)) }
     ensures fits { IfOk result (λ violation. ClaimFits violation election.now) }
     ensures demand { IfOk result (λ violation. IsSet 1 (projects election.now) violation.demand) }
@@ -54,19 +54,26 @@ pub fn violation_of(
     let bytes = bytes_of(input, file)?;
     match Violation::read(alloc, bytes, election) {
         Ok(violation) => Ok(violation),
-        Err(refusal) => Err(stop_at(input, InputFault::Certificate(refusal))),
+        Err(refusal) => Err(unanswered_at(input, InputFault::Certificate(refusal))),
     }
 }
 
 /// The refutation for an election that a file states, as the certificate.
-pub fn refutation_of(alloc: Global, file: File<'_>, election: &Election) -> Result<Refutation, Stop>
+pub fn refutation_of(
+    alloc: Global,
+    file: File<'_>,
+    election: &Election,
+) -> Result<Refutation, Unanswered>
     ensures taken { IfTaken result (StatesRefutation election.now (lent file.entry)) }
     ensures fits { IfOk result (λ refutation. WeightsFit refutation election.now) }
 {
     let bytes = bytes_of(InputName::Certificate, file)?;
     match Refutation::read(alloc, bytes, election) {
         Ok(refutation) => Ok(refutation),
-        Err(refusal) => Err(stop_at(InputName::Certificate, InputFault::Certificate(refusal))),
+        Err(refusal) => Err(unanswered_at(
+            InputName::Certificate,
+            InputFault::Certificate(refusal),
+        )),
     }
 }
 
@@ -75,7 +82,7 @@ pub fn outcome_of(
     alloc: Global,
     file: Option<File<'_>>,
     election: &Election,
-) -> Result<Outcome, Stop>
+) -> Result<Outcome, Unanswered>
     ensures taken { IfTaken (as_marks result) (AuditsOutcome election.now (option_map lent file.entry)) }
     ensures fits { IfOk result (λ outcome. OutcomeFits outcome election.now) }
 {
@@ -86,34 +93,34 @@ pub fn outcome_of(
 }
 
 /// The outcome that an outcome file states.
-fn outcome_in(alloc: Global, file: File<'_>, election: &Election) -> Result<Outcome, Stop>
+fn outcome_in(alloc: Global, file: File<'_>, election: &Election) -> Result<Outcome, Unanswered>
     ensures taken { IfTaken (as_marks result) (StatesOutcome election.now (lent file.entry)) }
     ensures fits { IfOk result (λ outcome. OutcomeFits outcome election.now) }
 {
     let bytes = bytes_of(InputName::Outcome, file)?;
     match read_outcome(alloc, bytes, election) {
         Ok(outcome) => Ok(outcome),
-        Err(refusal) => Err(stop_at(InputName::Outcome, InputFault::Certificate(refusal))),
+        Err(refusal) => Err(unanswered_at(InputName::Outcome, InputFault::Certificate(refusal))),
     }
 }
 
 /// The outcome that the election itself states.
-fn own_outcome(alloc: Global, election: &Election) -> Result<Outcome, Stop>
+fn own_outcome(alloc: Global, election: &Election) -> Result<Outcome, Unanswered>
     ensures taken { IfTaken (as_marks result) (λ stated. stated ≡ its_outcome (election.now).selected) }
     ensures fits { IfOk result (λ outcome. OutcomeFits outcome election.now) }
 {
     match Outcome::selected(alloc, election) {
         Ok(outcome) => Ok(outcome),
-        Err(refusal) => Err(stop_at(InputName::Election, InputFault::Election(refusal))),
+        Err(refusal) => Err(unanswered_at(InputName::Election, InputFault::Election(refusal))),
     }
 }
 
 /// The election of an input, whose turn has come. What was taken of it is let go.
-pub fn take_election<G: Given>(alloc: Global, input: &mut G) -> Result<Election, Stop>
+pub fn take_election<G: Given>(alloc: Global, input: &mut G) -> Result<Election, Unanswered>
     ensures { IfTaken result (Gives StatesElection (turn G.delivers input.old input.new)) }
 {
     let taken = input.take(alloc)?;
-    election_of(alloc, taken.lend())
+    election_of(alloc, taken.as_file())
 }
 
 /// The outcome that is audited, with an outcome file whose turn has come, where one is given. What was taken of it is
@@ -122,7 +129,7 @@ pub fn take_outcome<G: Given>(
     alloc: Global,
     input: &mut Option<G>,
     election: &Election,
-) -> Result<Outcome, Stop>
+) -> Result<Outcome, Unanswered>
     ensures taken { IfTaken (as_marks result) (GivesOutcome election.now (file_turn G.delivers input.old input.new)) }
     ensures fits { IfOk result (λ outcome. OutcomeFits outcome election.now) }
 {
@@ -137,10 +144,10 @@ fn take_outcome_file<G: Given>(
     alloc: Global,
     input: &mut G,
     election: &Election,
-) -> Result<Outcome, Stop>
+) -> Result<Outcome, Unanswered>
     ensures taken { IfTaken (as_marks result) (Gives (StatesOutcome election.now) (turn G.delivers input.old input.new)) }
     ensures fits { IfOk result (λ outcome. OutcomeFits outcome election.now) }
 {
     let taken = input.take(alloc)?;
-    outcome_in(alloc, taken.lend(), election)
+    outcome_in(alloc, taken.as_file(), election)
 }

@@ -1,3 +1,4 @@
+pub mod Ahead
 pub mod Endings
 pub mod Loading
 pub mod Stems

@@ -1,14 +1,14 @@
 -- The files of one name more.
 use Rattle.std.proofs.Common.{◌≡◌, ◌∙◌, ◌++◌, ◌∷◌, [], List, ap, append_assoc, refl, sym, subst, map}
 use Rattle.std.proofs.lemmas.List.{map-append}
-use Rattle.pb_audit.specs.Reports.{Files}
+use Rattle.pb_audit.specs.Reports.{EntryFiles}
 use Rattle.pb_records.specs.Loading.{Delivery}
 use Rattle.pb_records.specs.Records.{Text}
 use Rattle.pb_run.specs.Folders.{LoadsEach, LoadsEntry}
 use Rattle.pb_run.specs.declared.listing.Listing.{Listing}
 
 pub one_name_more : {S I : Type 0} (hands : S → S → Text → I → Type 0) (delivers : I → I → Delivery → Type 0)
-    (folder : Text) (l : Listing) (names : List Text) (name : Text) (old mid new : S) (entries : List Files) (files : Files)
+    (folder : Text) (l : Listing) (names : List Text) (name : Text) (old mid new : S) (entries : List EntryFiles) (files : EntryFiles)
     → LoadsEach hands delivers folder l names old mid entries
     → LoadsEntry hands delivers folder l name mid new files
     → LoadsEach hands delivers folder l (names ++ name ∷ []) old new (entries ++ files ∷ [])
@@ -22,7 +22,7 @@ one_name_more hands delivers folder l (n ∷ ns) name old mid new (e ∷ es) fil
 -- the same of values that show texts
 pub one_shown_more : {S I X : Type 0} (text : X → Text) (hands : S → S → Text → I → Type 0)
     (delivers : I → I → Delivery → Type 0) (folder : Text) (l : Listing) (names : List X) (name : X) (shown : Text)
-    (old mid new : S) (entries : List Files) (files : Files)
+    (old mid new : S) (entries : List EntryFiles) (files : EntryFiles)
     → shown ≡ text name
     → LoadsEach hands delivers folder l (map text names) old mid entries
     → LoadsEntry hands delivers folder l shown mid new files

@@ -2,7 +2,7 @@
 use Rattle.std.specs.Prelude.{◌≡◌, ◌++◌, ◌∷◌, [], List, Bool, true, false, Option, Some, None, codes, map, string_bytes}
 use Rattle.std.specs.BTreeSet.{IsOrdered, contains_text}
 use Rattle.std.specs.String.{string_cmp}
-use Rattle.pb_audit.specs.Reports.{Files, HasTaken, Progress, ReportOf}
+use Rattle.pb_audit.specs.Reports.{EntryFiles, HasTaken, Progress, ReportOf}
 use Rattle.pb_audit.specs.declared.total.FolderStatus.{FolderStatus}
 use Rattle.pb_input.specs.declared.InputFault.TheVariants as fault
 use Rattle.pb_input.specs.declared.InputName.TheVariants as name
@@ -38,7 +38,7 @@ LoadsBeside hands delivers _ path old new _ = ⊥
 
 -- the files of one name were handed out, in this order: the election, and the certificates that lie beside it
 pub record LoadsEntry {S I : Type 0} (hands : S → S → Text → I → Type 0) (delivers : I → I → Delivery → Type 0)
-    (folder : Text) (l : Listing) (name : Text) (old new : S) (files : Files) : Type 0 where
+    (folder : Text) (l : Listing) (name : Text) (old new : S) (files : EntryFiles) : Type 0 where
   pub after_election : S
   pub after_prices : S
   pub named : files.name ≡ name
@@ -51,15 +51,16 @@ pub record LoadsEntry {S I : Type 0} (hands : S → S → Text → I → Type 0)
 -- a report with the files of one name more
 pub record AddsEntry {S I : Type 0} (hands : S → S → Text → I → Type 0) (delivers : I → I → Delivery → Type 0)
     (folder : Text) (l : Listing) (name : Text) (old new : S) (report more : Progress) : Type 0 where
-  pub files : Files
+  pub files : EntryFiles
   pub loads : LoadsEntry hands delivers folder l name old new files
   pub as_json : more.as_json ≡ report.as_json
   pub mode : more.mode ≡ report.mode
-  pub taken : (entries : List Files) → HasTaken report entries → HasTaken more (entries ++ files ∷ [])
+  pub taken : (entries : List EntryFiles) (written : Text) → HasTaken report entries written
+      → HasTaken more (entries ++ files ∷ []) written
 
 -- the files of each of these names were handed out, name by name
 abbrev pub LoadsEach : {S I : Type 0} → (S → S → Text → I → Type 0) → (I → I → Delivery → Type 0) → Text → Listing
-    → List Text → S → S → List Files → Type 0
+    → List Text → S → S → List EntryFiles → Type 0
 LoadsEach hands delivers folder l [] old new [] = new ≡ old
 LoadsEach hands delivers folder l (name ∷ names) old new (files ∷ rest) =
     (mid : _) × LoadsEntry hands delivers folder l name old mid files × LoadsEach hands delivers folder l names mid new rest
@@ -74,8 +75,20 @@ names_of l = map (λ s. string_bytes s) l.elections.keys
 pub record ReportsOn {S I : Type 0} (hands : S → S → Text → I → Type 0) (delivers : I → I → Delivery → Type 0)
     (json : Bool) (m : Mode) (folder : Text) (l : Listing) (old new : S) (report : Answer FolderStatus) : Type 0 where
   pub ordered : IsOrdered string_cmp l.elections
-  pub entries : List Files
+  pub entries : List EntryFiles
   pub loaded : LoadsEach hands delivers folder l (names_of l) old new entries
+  pub report_of : ReportOf json m entries report
+
+-- the same on the first of the elections, as many as there may be
+pub record ReportsOnFirst {S I : Type 0} (hands : S → S → Text → I → Type 0) (delivers : I → I → Delivery → Type 0)
+    (json : Bool) (m : Mode) (folder : Text) (l : Listing) (old : S) (report : Answer FolderStatus) : Type 0 where
+  pub ordered : IsOrdered string_cmp l.elections
+  pub first : List Text
+  pub others : List Text
+  pub names : names_of l ≡ first ++ others
+  pub after_first : S
+  pub entries : List EntryFiles
+  pub loaded : LoadsEach hands delivers folder l first old after_first entries
   pub report_of : ReportOf json m entries report
 
 -- the folder was listed, and has these elections and certificates
@@ -93,3 +106,12 @@ pub record ReportsFolder {S I : Type 0} (lists : S → S → Text → List Entry
   pub after_listing : S
   pub listed : ListsFolder lists folder old after_listing listing
   pub reported : ReportsOn hands delivers json m folder listing after_listing new report
+
+-- the same on the first of its elections
+pub record ReportsFirst {S I : Type 0} (lists : S → S → Text → List Entry → Type 0)
+    (hands : S → S → Text → I → Type 0) (delivers : I → I → Delivery → Type 0) (json : Bool) (m : Mode) (folder : Text)
+    (old : S) (report : Answer FolderStatus) : Type 0 where
+  pub listing : Listing
+  pub after_listing : S
+  pub listed : ListsFolder lists folder old after_listing listing
+  pub reported : ReportsOnFirst hands delivers json m folder listing after_listing report

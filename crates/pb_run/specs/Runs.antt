@@ -19,8 +19,9 @@ use Rattle.pb_reply.specs.declared.status.Fault.TheVariants as fault
 use Rattle.pb_reply.specs.declared.status.Status.{Status}
 use Rattle.pb_run.specs.Asking.{AnswersAt, Places, format_of, order}
 use Rattle.pb_run.specs.Endings.{HasStatus, WritesNothingUnlessHelp}
-use Rattle.pb_run.specs.Folders.{ReportsFolder, unlisted}
+use Rattle.pb_run.specs.Folders.{ReportsFirst, ReportsFolder, unlisted}
 use Rattle.pb_run.specs.Listings.{Entry}
+use Rattle.pb_run.specs.Reporting.{IsBegun, IsOutOfMemory, IsReported}
 use Rattle.pb_run.specs.declared.asking.Ask.{Ask}
 use Rattle.pb_run.specs.declared.end.End.{End}
 use Rattle.pb_run.specs.declared.end.End.TheVariants.{Answered, Reported, Faulted}
@@ -42,36 +43,45 @@ AnswersTask hands delivers reads it = AnswersOrder hands delivers reads (order i
 abbrev pub Once : {S A : Type 0} → (S → A → Type 0) → A → Type 0
 Once {S} answers a = (then : S) × answers then a
 
--- How a task ends: one of these answers or of these reports was written, whole or cut short; or memory ran out, and
--- nothing was written.
-abbrev pub Ends : {W : Type 0} → Sink W → (Answer Status → Type 0) → (Answer FolderStatus → Type 0) → End → W → W → Type 0
-Ends sink answers reports (Answered s) old new = IsWritten answers s (writer sink old) (writer sink new)
-Ends sink answers reports (Reported s) old new = IsWritten reports s (writer sink old) (writer sink new)
-Ends sink answers reports (Faulted fault.Write) old new =
-    IsCutShort answers (writer sink old) (writer sink new) ⊎ IsCutShort reports (writer sink old) (writer sink new)
-Ends sink answers reports (Faulted fault.Memory) old new = new ≡ old
-Ends sink answers reports _ old new = ⊥
+-- How a task ends: one of these answers was written, whole or cut short; or memory ran out, and nothing was written.
+abbrev pub Ends : {W : Type 0} → Sink W → (Answer Status → Type 0) → End → W → W → Type 0
+Ends sink answers (Answered s) old new = IsWritten answers s (writer sink old) (writer sink new)
+Ends sink answers (Faulted fault.Write) old new = IsCutShort answers (writer sink old) (writer sink new)
+Ends sink answers (Faulted fault.Memory) old new = new ≡ old
+Ends sink answers _ old new = ⊥
+
+-- How a task on a folder ends: with its report, whole or begun; or where the folder can't be listed, with the refusal.
+abbrev pub EndsReporting : {W : Type 0} → Sink W → Bool → (Answer Status → Type 0) → (Answer FolderStatus → Type 0)
+    → (Answer FolderStatus → Type 0) → End → W → W → Type 0
+EndsReporting sink json refusals reports on_first (Answered s) old new =
+    IsWritten refusals s (writer sink old) (writer sink new)
+EndsReporting sink json refusals reports on_first (Reported s) old new =
+    IsReported json reports s (writer sink old) (writer sink new)
+EndsReporting sink json refusals reports on_first (Faulted fault.Write) old new =
+    IsCutShort refusals (writer sink old) (writer sink new)
+    ⊎ IsCutShort (IsBegun json reports on_first) (writer sink old) (writer sink new)
+EndsReporting sink json refusals reports on_first (Faulted fault.Memory) old new =
+    IsOutOfMemory json sink on_first old new
+EndsReporting sink json refusals reports on_first _ old new = ⊥
 
 abbrev pub end_of : Result End Fault → End
 end_of (Ok end) = end
 end_of (Err fault) = Faulted fault
 
-abbrev pub is_never : {A : Type 0} → A → Type 0
-is_never a = ⊥
-
 -- the report on a folder, as JSON or as lines; one that can't be listed is refused, likewise
 abbrev pub EndsFolder : {S I W : Type 0} → (S → S → Text → List Entry → Type 0) → (S → S → Text → I → Type 0)
     → (I → I → Delivery → Type 0) → Sink W → Bool → Mode → Text → End → S → S → W → W → Type 0
 EndsFolder lists hands delivers sink json m folder end files files' =
-    Ends sink (λ a. a ≡ answer_as (format_of json) (refused unlisted))
-    (Once (λ then. ReportsFolder lists hands delivers json m folder files then)) end
+    EndsReporting sink json (λ a. a ≡ answer_as (format_of json) (refused unlisted))
+    (Once (λ then. ReportsFolder lists hands delivers json m folder files then))
+    (ReportsFirst lists hands delivers json m folder files) end
 
 abbrev pub EndsTask : {S I R W : Type 0} → (S → S → Text → List Entry → Type 0) → (S → S → Text → I → Type 0)
     → (I → I → Delivery → Type 0) → (R → R → Delivery → Type 0) → Sink W → Asked → End → S → S → R → R → W → W → Type 0
 EndsTask lists hands delivers reads sink (task.folder f m json) end files files' input input' out out' =
     EndsFolder lists hands delivers sink json m f end files files' out out' × (input' ≡ input)
 EndsTask lists hands delivers reads sink it end files files' input input' out out' =
-    Ends sink (Once (λ then. AnswersTask hands delivers reads it files then input input')) is_never end out out'
+    Ends sink (Once (λ then. AnswersTask hands delivers reads it files then input input')) end out out'
 
 -- Nothing was done: no file handed out, nothing read, nothing written. It is so where the words are no line of a command,
 -- where they ask for help, and where memory ran out before.

@@ -5,7 +5,8 @@ ghost use Rattle.pb_reply.specs.Inside.Loaded.{delivery_of};
 ghost use Rattle.pb_reply.specs.Replies.{answer_as, refused};
 ghost use Rattle.pb_reply.specs.Writing.{Writes};
 ghost use Rattle.pb_run.specs.Asking.{format_of};
-ghost use Rattle.pb_run.specs.Folders.{AddsEntry, ListsFolder, Loads, LoadsBeside, LoadsEntry, ReportsOn, path_in, unlisted};
+ghost use Rattle.pb_run.specs.Folders.{AddsEntry, ListsFolder, Loads, LoadsBeside, LoadsEntry, path_in, unlisted};
+ghost use Rattle.pb_run.specs.Reporting.{TakesEntry, WritesAhead, WritesReport};
 ghost use Rattle.pb_run.specs.Runs.{EndsFolder, end_of};
 
 use crate::asking::format_of;
@@ -44,9 +45,9 @@ const CLEAN: &str = "their names have control characters";
 
 const AS_THEY_ARE: &str = "the report has them as they are";
 
-/// Writes the report on a folder of elections on `out`, as lines or as JSON objects, once the whole of it is there. Where `err` is a terminal, it
-/// tells there how far it is. That the folder has no election, or can't be listed, is told on `err` as well, and so are
-/// files that may be meant to be audited and aren't.
+/// Writes the report on a folder of elections on `out`: as lines once the whole of it is there, and as JSON each object
+/// once that is there. Where `err` is a terminal, it tells there how far it is. That the folder has no election, or can't
+/// be listed, is told on `err` as well, and so are files that may be meant to be audited and aren't.
 pub fn run_folder<F: Files, W: Sink, E: Write + IsTerminal>(
     alloc: Global,
     files: &mut F,
@@ -82,7 +83,7 @@ fn refuse<W: Sink>(alloc: Global, json: bool, out: &mut W) -> Result<Status, Fau
 }
 
 /// Writes the report on the elections and the certificates of a folder.
-fn write_report<F: Files, W: Sink, E: Write + IsTerminal>(
+pub fn write_report<F: Files, W: Sink, E: Write + IsTerminal>(
     alloc: Global,
     files: &mut F,
     folder: &str,
@@ -92,12 +93,21 @@ fn write_report<F: Files, W: Sink, E: Write + IsTerminal>(
     out: &mut W,
     err: &mut E,
 ) -> Result<FolderStatus, Fault>
-    ensures { Writes W.Sink (ReportsOn F.hands F.Input.delivers json mode folder.now listing.now files.old files.new) result out.old out.new }
+    ensures { WritesReport F.hands F.Input.delivers W.Sink json mode folder.now listing.now result files.old files.new out.old out.new }
 {
     let mut progress = Progress::new(err, listing.elections().len());
-    let report = report(alloc, files, folder, listing, mode, json, &mut progress);
+    let rest = rest_of_report(
+        alloc,
+        files,
+        folder,
+        listing,
+        mode,
+        json,
+        out,
+        &mut progress,
+    );
     progress.clear();
-    report?.write(out)
+    rest?.write(out)
 }
 
 /// Why a folder is refused that can't be listed.
@@ -170,25 +180,50 @@ fn push_names(
     writeln!(lines, "; {rule}")
 }
 
-/// The report on the elections and the certificates of a folder. One entry after the other is loaded, audited and let
-/// go.
-pub fn report<F: Files, E: Write + IsTerminal>(
+/// The report on the elections and the certificates of a folder, but for what is written of it: as JSON the object of
+/// each election. One entry after the other is loaded, audited and let go.
+fn rest_of_report<F: Files, W: Sink, E: Write + IsTerminal>(
     alloc: Global,
     files: &mut F,
     folder: &str,
     listing: &Listing,
     mode: Mode,
     json: bool,
+    out: &mut W,
     progress: &mut Progress<'_, E>,
-) -> Result<Answer<FolderStatus>, AllocError>
-    ensures { IfOk result (ReportsOn F.hands F.Input.delivers json mode folder.now listing.now files.old files.new) }
+) -> Result<Answer<FolderStatus>, Fault>
+    ensures { WritesAhead F.hands F.Input.delivers W.Sink json mode folder.now listing.now result files.old files.new out.old out.new }
 {
     let mut report = FolderReport::new(alloc, json, mode);
     for name in listing.elections() {
         progress.tell(name);
-        report = add_entry(alloc, files, folder, listing, name, report)?;
+        report = take_entry(
+            alloc, files, folder, listing, name, report, json, out, progress,
+        )?;
     }
-    Ok(report.finish()?)
+    Ok(report.finish(alloc)?)
+}
+
+/// The report with the files of one name more, of which as JSON all is written that is there.
+fn take_entry<F: Files, W: Sink, E: Write + IsTerminal>(
+    alloc: Global,
+    files: &mut F,
+    folder: &str,
+    listing: &Listing,
+    name: &str,
+    report: FolderReport,
+    json: bool,
+    out: &mut W,
+    progress: &mut Progress<'_, E>,
+) -> Result<FolderReport, Fault>
+    ensures { TakesEntry F.hands F.Input.delivers W.Sink json folder.now listing.now name.now report result files.old files.new out.old out.new }
+{
+    let report = add_entry(alloc, files, folder, listing, name, report)?;
+    if json {
+        progress.clear();
+        return Ok(report.write(out)?);
+    }
+    Ok(report)
 }
 
 /// The report with the files of one name more.

@@ -23,12 +23,11 @@ mod words;
 
 pub use end::End;
 pub use files::Files;
-pub use folder::report;
+pub use folder::write_report;
 pub use listed::{ListFault, Listed};
 pub use listing::Listing;
 pub use machine::Machine;
 pub use pb_command::{Inputs, Task, UsageFault, task_of};
-pub use progress::Progress;
 pub use watched::WatchedReader;
 pub use whole_run::run;
 pub use words::{without_words, words_of};

@@ -48,9 +48,7 @@ pub fn tell_notes<E: Write>(alloc: Global, task: &Task, notes: &[String], err: &
 
 fn push_note(text: &mut String, path: &str, note: &str) -> Result<(), AllocError> {
     push_shown(text, path)?;
-    text.push_str(": ")?;
-    text.push_str(note)?;
-    text.push('\n')
+    writeln!(text, ": {note}")
 }
 
 /// Tells on `err` why a folder was not listed.
@@ -141,7 +139,7 @@ fn remarks_on<F: Files>(
     path: Option<&str>,
 ) -> Result<Vec<Remark>, AllocError> {
     let bytes = match path {
-        Some(path) if refusal.fault.place() > 0 => files.again(alloc, path)?,
+        Some(path) if refusal.fault.record_number() > 0 => files.again(alloc, path)?,
         _ => None,
     };
     let election = match input_of(task, InputName::Election) {

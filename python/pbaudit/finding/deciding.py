@@ -62,12 +62,12 @@ class Decisions:
 
     def known(self, need: Need) -> Optional[Decision]:
         """What is known by this or other decisions: weights that refute all prices refute those with Cover, and so on."""
-        for other, decided in self._decided.items():
-            weights, shares = decided.weights, decided.shares
+        for other, decision in self._decided.items():
+            weights, shares = decision.weights, decision.shares
             if weights is not None and (need.stable or not other.stable) and (need.cover or not weights.cover):
-                return decided
+                return decision
             if shares is not None and (other.stable or not need.stable) and (other.cover or not need.cover):
-                return decided
+                return decision
         return None
 
 
@@ -92,9 +92,9 @@ class Search:
                 self._method.advance()
             except Stuck:
                 break
-            decided = self._decided()
-            if decided is not None:
-                return decided
+            decision = self._decided()
+            if decision is not None:
+                return decision
         return self._so_far(Unsolved)
 
     def _decided(self) -> Optional[Decision]:
@@ -140,7 +140,7 @@ class Search:
     def _try(self, weights: Weights) -> None:
         """Keeps weights where they are the best so far, with room in U2 and in U3."""
         owed = float(self._owed @ weights.unfunded)
-        worth = float(self._paid @ weights.funded) + weights.cover * self._problem.share * len(self._problem.town.ballots)
+        worth = float(self._paid @ weights.funded) + weights.cover * self._problem.share * len(self._problem.decided.ballots)
         if not worth > 0 or not owed > 0:
             return
         greatest, least = self._voters.greatest(weights), owed / worth

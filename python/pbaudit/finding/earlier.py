@@ -49,7 +49,7 @@ def _prices(prices: FoundPrices, given: Given, wanted: Wanted) -> Optional[Found
         except Refusal:
             return None
         if verdict:
-            made = _certificate(prices.certificate, len(given.problem.town.ballots), verdict)
+            made = _certificate(prices.certificate, len(given.problem.decided.ballots), verdict)
             return FoundPrices(made, verdict, wanted.stable, given.exhaustive, cover)
     return None
 

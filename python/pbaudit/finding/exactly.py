@@ -136,7 +136,7 @@ class Programme:
 
     def _pay_costs(self) -> None:
         """C3, and C5 or S5."""
-        costs, groups = self._problem.town.costs, range(len(self._ballots))
+        costs, groups = self._problem.decided.costs, range(len(self._ballots))
         for at in self._problem.funded:
             paid = {self.pays[group, at]: self._sizes[group] for group in groups if (group, at) in self.pays}
             self.rows += [(paid, costs[at]), ({name: -size for name, size in paid.items()}, -costs[at])]
@@ -145,14 +145,14 @@ class Programme:
                               costs[at]))
         if not self._problem.unfunded:
             # Any budget will do that is large enough.
-            self.rows.append(({self.BUDGET: Fraction(1)}, 1 + self._problem.town.limit))
+            self.rows.append(({self.BUDGET: Fraction(1)}, 1 + self._problem.decided.limit))
 
     def payments(self, solved: Simplex) -> List[Dict[str, Fraction]]:
         """What each voter pays, by the ids of projects."""
         by_group: List[Dict[str, Fraction]] = [{} for _ in self._ballots]
         for (group, at), name in self.pays.items():
             if solved.value(name):
-                by_group[group][self._problem.town.names[at]] = solved.value(name)
+                by_group[group][self._problem.decided.names[at]] = solved.value(name)
         return [by_group[group] for group in self._problem.groups.of_voter.tolist()]
 
     def weights(self, solved: Simplex, cover: Fraction) -> Iterator[Whole]:
@@ -181,9 +181,9 @@ def decided(problem: Problem, need: Need, clock: Clock) -> Optional[Decided]:
     solved, cover = Simplex(programme.rows, programme.count, clock), Fraction(0)
     if solved.satisfy():
         budget = solved.most(Programme.BUDGET)
-        if not need.cover or budget * len(problem.town.ballots) > problem.town.limit:
+        if not need.cover or budget * len(problem.decided.ballots) > problem.decided.limit:
             return Decided(budget, programme.payments(solved))
-        cover = Fraction(1, len(problem.town.ballots))
+        cover = Fraction(1, len(problem.decided.ballots))
     whole = next(programme.weights(solved, cover), None)
     return None if whole is None else Decided(weights=whole)
 

@@ -4,7 +4,7 @@ from dataclasses import dataclass
 from itertools import chain
 from typing import Any, Dict, List, Sequence
 
-from ..town import Town
+from ..decided import DecidedElection
 from .needs import needed
 
 np, sparse = needed("numpy"), needed("scipy.sparse")
@@ -31,11 +31,11 @@ class Groups:
         return _grouped(self.approvals[:, list(projects)], self.sizes, self.of_voter)
 
 
-def groups_of(town: Town) -> Groups:
+def groups_of(decided: DecidedElection) -> Groups:
     """The voters of an election, merged by equal ballots, in the order of the first voter of each group."""
     known: Dict[bytes, int] = {}
     of_voter, places, ends = [], [], [0]
-    for ballot in town.ballots:
+    for ballot in decided.ballots:
         key = array("I", ballot).tobytes()
         if key not in known:
             known[key] = len(known)
@@ -43,7 +43,7 @@ def groups_of(town: Town) -> Groups:
             ends.append(ends[-1] + len(ballot))
         of_voter.append(known[key])
     indices = np.fromiter(chain.from_iterable(places), np.int32, ends[-1])
-    shape = (len(known), len(town.names))
+    shape = (len(known), len(decided.names))
     approvals = sparse.csr_matrix((np.ones(ends[-1]), indices, ends), shape=shape)
     numbers = np.array(of_voter, np.int64)
     return Groups(np.bincount(numbers, minlength=len(known)).astype(float), numbers, approvals)

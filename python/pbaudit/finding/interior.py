@@ -46,7 +46,7 @@ class Interior:
     """The method's state: prices that are paid for whole, and weights."""
 
     def __init__(self, problem: Problem, need: Need):
-        voters = len(problem.town.ballots)
+        voters = len(problem.decided.ballots)
         self._problem = problem
         self._paid, self._owed = (problem.costs[each] / voters for each in (problem.funded, problem.unfunded))
         self._costs = np.concatenate([self._paid, self._owed])

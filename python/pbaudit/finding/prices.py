@@ -20,7 +20,7 @@ from .deciding import Decision, Decisions
 from .programme import TOLERANCE, NoPrices, OutOfTime, Unsolved, by_programme
 from .results import FoundPrices
 from .shares import Need, Problem, Shares, budgets, payments_of, unpaid
-from .water import by_water
+from .water_filling import by_water_filling
 
 # Why no prices were found.
 NONE, TIME, UNSOLVED, ROUNDING, UNPAID = "none", "time", "unsolved", "rounding", "unpaid"
@@ -66,16 +66,16 @@ def find_prices(given: Given, stable: bool, covered: bool, solver: Helper, clock
 def _found(given: Given, stable: bool, covered: bool, solver: Helper, clock: Clock,
            keep: Keep) -> Tuple[Optional[FoundPrices], str]:
     problem, with_cover, without = given.problem, Need(stable, True), Need(stable, False)
-    shares, failed = by_water(problem, with_cover, clock)
+    shares, failed = by_water_filling(problem, with_cover, clock)
     found = shares and _exact(given, shares, with_cover, clock)
     if found or covered:
         found = found or _exact(given, _solved(given, with_cover, failed, solver, clock), with_cover, clock)
         return found, "" if found else ROUNDING
-    decided = given.decisions.of(with_cover, clock)
-    if decided is not None:
-        return _decided(given, decided, without, solver, clock)
+    decision = given.decisions.of(with_cover, clock)
+    if decision is not None:
+        return _decided(given, decision, without, solver, clock)
     # Where there are none without Cover there are none with it.
-    shares, failed = by_water(problem, without, clock)
+    shares, failed = by_water_filling(problem, without, clock)
     spare = shares and _exact(given, shares, without, clock)
     if spare and also_with_cover(given, spare).cover:
         return spare, ""
@@ -97,7 +97,7 @@ def _decided(given: Given, with_cover: Decision, without: Need, solver: Helper,
     """Prices by what was decided of those with Cover, and otherwise without. Raises NoPrices, OutOfTime and Unsolved."""
     found = with_cover.shares and _exact(given, with_cover.shares, replace(without, cover=True), clock)
     if not found:
-        spare, failed = by_water(given.problem, without, clock)
+        spare, failed = by_water_filling(given.problem, without, clock)
         found = _exact(given, spare or _solved(given, without, failed, solver, clock), without, clock)
     return found, "" if found else ROUNDING
 
@@ -105,19 +105,19 @@ def _decided(given: Given, with_cover: Decision, without: Need, solver: Helper,
 def _solved(given: Given, need: Need, failed: List[int], solver: Helper, clock: Clock) -> Shares:
     """Prices by the interior-point method, where this suits, or by the programme. Raises NoPrices, OutOfTime and
     Unsolved."""
-    decided = given.decisions.of(need, clock)
-    if decided is None:
+    decision = given.decisions.of(need, clock)
+    if decision is None:
         return by_programme(given.problem, need, failed, solver, clock)
-    if decided.shares is None:
+    if decision.shares is None:
         raise NoPrices
-    return decided.shares
+    return decision.shares
 
 
 def _exact(given: Given, shares: Shares, need: Need, clock: Clock) -> Optional[FoundPrices]:
     """A certificate near these payments that the auditor accepts, or None. One is tried even where time is over."""
     clock.tell(f"{need}: rounding")
     payments = Payments(payments_of(given.problem, shares))
-    unit = common_denominator(given.problem.town.costs[project] for project in given.problem.funded)
+    unit = common_denominator(given.problem.decided.costs[project] for project in given.problem.funded)
     for budget in _voter_budgets(given.problem, shares, need):
         # A finer denominator may keep Cover where the first that keeps all else doesn't.
         finer = DENOMINATORS[1:] if need.cover else DENOMINATORS[1:-1]
@@ -130,9 +130,9 @@ def _exact(given: Given, shares: Shares, need: Need, clock: Clock) -> Optional[F
 
 def rounded(given: Given, payments: Payments, budget: Optional[Fraction], denominator: Optional[int], need: Need,
              clock: Clock) -> Optional[FoundPrices]:
-    town = given.problem.town
+    decided = given.problem.decided
     try:
-        made = certified(town, given.projects, budget, payments, need.stable, given.exhaustive, denominator,
+        made = certified(decided, given.projects, budget, payments, need.stable, given.exhaustive, denominator,
                          clock=Clock(max(clock.left(), LAST)))
     except CannotKeep:
         return None
@@ -157,8 +157,8 @@ def _voter_budgets(problem: Problem, shares: Shares, need: Need) -> Iterator[Opt
     if low < high:
         yield _short(low * problem.unit, min(high, 1.25 * low + 1e-3) * problem.unit)
     yield None
-    if not need.cover and problem.town.limit:
-        yield problem.town.limit / len(problem.town.ballots)
+    if not need.cover and problem.decided.limit:
+        yield problem.decided.limit / len(problem.decided.ballots)
 
 
 def _short(low: float, high: float) -> Fraction:

@@ -19,7 +19,7 @@ from .programme import (
 from .results import FoundRefutation
 from .shares import Need, Problem, unpaid
 from .voters import Weights
-from .water import by_water
+from .water_filling import by_water_filling
 from .whole import Whole, whole_weights
 
 np, sparse = needed("numpy"), needed("scipy.sparse")
@@ -46,7 +46,7 @@ def find_refutation(given: Given, need: Need, solver: Helper, clock: Clock) -> T
     nobody = unpaid(problem)
     if nobody is not None:
         return audited(given, Whole({nobody: 1}, 0), need), ROUNDING
-    if need.cover and not len(problem.town.ballots):
+    if need.cover and not len(problem.decided.ballots):
         # Nobody's budgets aren't more than any limit.
         return audited(given, Whole({}, 1), need), ROUNDING
     try:
@@ -63,7 +63,7 @@ def _weights(given: Given, need: Need, solver: Helper, clock: Clock) -> Weights:
     """Weights in floats. Raises NoWeights where there are prices, OutOfTime and Unsolved."""
     known = given.decisions.known(need)
     if known is None:
-        shares, worst = by_water(given.problem, need, clock)
+        shares, worst = by_water_filling(given.problem, need, clock)
         if shares is not None:
             raise NoWeights
         known = given.decisions.of(need, clock)
@@ -98,7 +98,7 @@ def _of_programme(problem: Problem, answer: Answer, groups: int, seen: Any) -> W
     unfunded = np.zeros(len(problem.costs))
     unfunded[seen] = np.maximum(-answer.rows[:len(seen)], 0.0)
     funded = answer.sums[groups:groups + len(problem.funded)]
-    cover = max(float(answer.low[Variables.BUDGET]), 0.0) / len(problem.town.ballots)
+    cover = max(float(answer.low[Variables.BUDGET]), 0.0) / len(problem.decided.ballots)
     return Weights(funded, unfunded[problem.unfunded], cover)
 
 
@@ -123,7 +123,7 @@ def _exact(given: Given, need: Need, weights: Weights, clock: Clock) -> Optional
 
 def audited(given: Given, whole: Whole, need: Need) -> Optional[FoundRefutation]:
     """The refutation of these weights, where the auditor accepts it."""
-    names, funded = given.projects.ids, given.problem.town.funded
+    names, funded = given.projects.ids, given.problem.decided.funded
     left = {names[at]: weight for at, weight in whole.projects.items() if at not in funded}
     least = {names[at]: weight for at, weight in whole.projects.items() if at in funded and weight > 0}
     most = {names[at]: -weight for at, weight in whole.projects.items() if at in funded and weight < 0}

@@ -10,10 +10,10 @@ from typing import Any, Dict, List, Optional, Tuple
 
 from ..amounts import MILLION, MOST_COST, MOST_DENOMINATOR, common_denominator
 from ..certificates import PriceCertificate, certified
+from ..decided import DecidedElection
 from ..helpers import Helper
 from ..rounding import CannotKeep
 from ..tables import PriceSystem
-from ..town import Town
 from ..values import Payments, Projects
 from ..writing import election_file
 from .clock import Clock
@@ -67,13 +67,13 @@ def _by_amount(programme: Programme, problem: Problem) -> Programme:
     costs = problem.costs[problem.unfunded]
     at = np.arange(len(costs)), np.full(len(costs), Variables.MARGIN)
     high = programme.high.copy()
-    high[Variables.MARGIN] = float(np.min(problem.costs[problem.town.unfunded]))
+    high[Variables.MARGIN] = float(np.min(problem.costs[problem.decided.unfunded]))
     return replace(programme, rows=programme.rows + sparse.csr_matrix((1.0 - costs, at), programme.rows.shape), high=high)
 
 
 def _beta(problem: Problem, least: float, room: Fraction, by: By) -> Fraction:
     """A beta with a little room, of few digits."""
-    costs = problem.town.costs
+    costs = problem.decided.costs
     measure = Fraction(1) if by == "min_mul" else (
         max(costs[project] for project in problem.unfunded) or max(costs) or Fraction(1))
     return (-(-Fraction(least) / measure // room) + 1) * room * measure
@@ -81,15 +81,15 @@ def _beta(problem: Problem, least: float, room: Fraction, by: By) -> Fraction:
 
 def _exact(given: Given, beta: Fraction, by: By, need: Need, solver: Helper, clock: Clock) -> Optional[Relaxation]:
     """Exact prices in the election whose unfunded projects cost so much more, or None."""
-    town, names = given.problem.town, given.projects
-    costs = [cost if project in town.funded else cost * beta if by == "min_mul" else max(cost + beta, Fraction(0))
-             for project, cost in enumerate(town.costs)]
-    scale = common_denominator(amount * MILLION for amount in (*costs, town.limit))
-    if max((*costs, town.limit)) * scale > MOST_COST:
+    decided, names = given.problem.decided, given.projects
+    costs = [cost if project in decided.funded else cost * beta if by == "min_mul" else max(cost + beta, Fraction(0))
+             for project, cost in enumerate(decided.costs)]
+    scale = common_denominator(amount * MILLION for amount in (*costs, decided.limit))
+    if max((*costs, decided.limit)) * scale > MOST_COST:
         return None
     clock.tell(f"relaxation by {float(beta):.9g}")
-    found = _prices_of(names, Town(names.ids, [cost * scale for cost in costs], town.limit * scale, town.funded,
-                                   town.ballots), need, solver, clock)
+    found = _prices_of(names, DecidedElection(names.ids, [cost * scale for cost in costs], decided.limit * scale,
+                                              decided.funded, decided.ballots), need, solver, clock)
     if found is None:
         return None
     system = found.certificate.price_system
@@ -98,8 +98,8 @@ def _exact(given: Given, beta: Fraction, by: By, need: Need, solver: Helper, clo
     return Relaxation(by, beta, found.verdict, PriceSystem(system.status, system.voter_budget / scale, paid))
 
 
-def _prices_of(projects: Projects, town: Town, need: Need, solver: Helper, clock: Clock) -> Optional[FoundPrices]:
-    election = election_file(projects, town.costs, town.limit, town.ballots, town.funded)
+def _prices_of(projects: Projects, decided: DecidedElection, need: Need, solver: Helper, clock: Clock) -> Optional[FoundPrices]:
+    election = election_file(projects, decided.costs, decided.limit, decided.ballots, decided.funded)
     seeker = Seeker(Found(), election, None, Wanted(need.stable, need.cover), None)
     found, _ = find_prices(seeker.given, need.stable, need.cover, solver, clock, lambda _: None)
     return found
@@ -113,7 +113,7 @@ def with_largest_budget(election: bytes, stable: bool, clock: Clock) -> Optional
         raise ValueError("nobody approves an unfunded project, so that a voter budget can be as large as you like")
     if seeker.bare.condition == "Feasible" or unpaid(problem) is not None:
         return None
-    unit = common_denominator(problem.town.costs[project] for project in problem.funded)
+    unit = common_denominator(problem.decided.costs[project] for project in problem.funded)
     with Helper() as solver:
         try:
             clock.tell(f"largest voter budget of {need}: linear programme")
@@ -135,7 +135,7 @@ def _budgeted(given: Given, need: Need, budget: Fraction, denominator: int, solv
     clock.tell(f"voter budget {float(budget):.9g}")
     try:
         _, paid = _with_budget(problem, need, float(budget) / problem.unit, solver, clock)
-        return certified(problem.town, given.projects, budget, Payments(paid), need.stable, given.exhaustive, denominator,
+        return certified(problem.decided, given.projects, budget, Payments(paid), need.stable, given.exhaustive, denominator,
                          clock=clock)
     except (CannotKeep, NoPrices, Unsolved):
         return None

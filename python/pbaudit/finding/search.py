@@ -5,12 +5,12 @@ from typing import Dict, List, Optional
 
 from .. import auditing
 from .._auditor import Question, auditor
+from ..decided import DecidedElection
 from ..election_files import election_of
 from ..files import File, bytes_of
 from ..helpers import Helper
 from ..records import records
 from ..shown import visible
-from ..town import Town
 from ..writing import Satisfaction, write_refutation, write_violation
 from .clock import Clock, Tell
 from .earlier import PRICES_UNFINISHED, Kept, taken
@@ -72,8 +72,8 @@ class Seeker:
         values = election_of(data)
         funded = set(values.funded or ()) if chosen is None else {
             values.projects.place[row[1].decode("utf-8")] for row in list(records(chosen, b","))[1:]}
-        self.town = Town(values.projects.ids, values.costs, values.limit, funded, values.ballots)
-        problem = problem_of(self.town, groups_of(self.town))
+        self.decided = DecidedElection(values.projects.ids, values.costs, values.limit, funded, values.ballots)
+        problem = problem_of(self.decided, groups_of(self.decided))
         self.given = Given(data, chosen, values.projects, problem, self.bare.condition != "Exhaustive")
 
     def take(self, earlier: Found) -> None:
@@ -209,7 +209,7 @@ class Seeker:
         def go_on(size: int) -> bool:
             clock.tell(f"violation by {NAMES[by]}: demands of {_projects(size)}")
             return clock.left() > 0
-        searched = Search(self.town, by, go_on).found()
+        searched = Search(self.decided, by, go_on).found()
         demand = searched.demand
         if demand is None:
             self.found.sentences.append(_no_violation(searched, by))

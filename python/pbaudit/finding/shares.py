@@ -2,7 +2,7 @@
 from dataclasses import dataclass
 from typing import Any, Dict, List, Optional, Tuple
 
-from ..town import Town
+from ..decided import DecidedElection
 from .groups import Groups
 from .needs import needed
 
@@ -26,7 +26,7 @@ class Problem:
     the limit is 1 (where the limit is 0, in the currency), the funded projects that cost something, and the unfunded
     ones that somebody approves."""
 
-    town: Town
+    decided: DecidedElection
     groups: Groups
     unit: float
     costs: Any
@@ -36,17 +36,17 @@ class Problem:
     @property
     def share(self) -> float:
         """A voter's share of the limit."""
-        return 1.0 if self.town.limit else 0.0
+        return 1.0 if self.decided.limit else 0.0
 
 
-def problem_of(town: Town, groups: Groups) -> Problem:
+def problem_of(decided: DecidedElection, groups: Groups) -> Problem:
     """The problem that an election poses."""
-    voters = len(town.ballots)
-    unit = float(town.limit / voters) if voters and town.limit else 1.0
-    costs = np.array([float(cost) for cost in town.costs]) / unit
-    funded = [project for project in sorted(town.funded) if town.costs[project]]
-    unfunded = [project for project in town.unfunded if len(town.supporters[project])]
-    return Problem(town, groups, unit, costs, funded, unfunded)
+    voters = len(decided.ballots)
+    unit = float(decided.limit / voters) if voters and decided.limit else 1.0
+    costs = np.array([float(cost) for cost in decided.costs]) / unit
+    funded = [project for project in sorted(decided.funded) if decided.costs[project]]
+    unfunded = [project for project in decided.unfunded if len(decided.supporters[project])]
+    return Problem(decided, groups, unit, costs, funded, unfunded)
 
 
 @dataclass(frozen=True)
@@ -111,7 +111,7 @@ def _greatest_stable(problem: Problem, shares: Shares, least: float) -> float:
 def payments_of(problem: Problem, shares: Shares) -> List[Dict[str, float]]:
     """The payments of each voter by the ids of projects, in the currency. Those for one project are scaled to what it
     costs, since what is a rounding beside a large payment may be much of a small one."""
-    names = problem.town.names
+    names = problem.decided.names
     by_group: List[Dict[str, float]] = [{} for _ in range(len(shares.groups))]
     paid = np.bincount(shares.project, shares.groups.sizes[shares.group] * shares.amount, len(problem.costs))
     scales = np.divide(problem.costs, paid, out=np.ones(len(paid)), where=paid > 0)
@@ -124,4 +124,4 @@ def payments_of(problem: Problem, shares: Shares) -> List[Dict[str, float]]:
 
 def unpaid(problem: Problem) -> Optional[int]:
     """A funded project that costs something and that nobody approves, or None."""
-    return next((project for project in problem.funded if not len(problem.town.slots[project])), None)
+    return next((project for project in problem.funded if not len(problem.decided.slots[project])), None)

@@ -10,7 +10,7 @@ from fractions import Fraction
 from typing import Callable, Dict, List, Optional, Sequence, Set, Tuple
 
 from ..amounts import common_denominator
-from ..town import Town
+from ..decided import DecidedElection
 from ..writing import Satisfaction
 
 MEASURES: Tuple[Satisfaction, ...] = ("count", "cost")
@@ -51,10 +51,10 @@ class _OutOfTime(Exception):
 class Search:
     """The search for a violation by one measure. Amounts are whole numbers of one unit."""
 
-    def __init__(self, town: Town, by: str, go_on: Callable[[int], bool]):
-        self.town, self._is_count, self._go_on = town, by == "count", go_on
-        unit = common_denominator([town.limit, *town.costs])
-        self.costs, self.limit = [int(cost * unit) for cost in town.costs], int(town.limit * unit)
+    def __init__(self, decided: DecidedElection, by: str, go_on: Callable[[int], bool]):
+        self.decided, self._is_count, self._go_on = decided, by == "count", go_on
+        unit = common_denominator([decided.limit, *decided.costs])
+        self.costs, self.limit = [int(cost * unit) for cost in decided.costs], int(decided.limit * unit)
         self._size = self._looked = 0
         self._best: Optional[Tuple[int, List[int], int]] = None
         self._rank()
@@ -62,18 +62,18 @@ class Search:
     def _rank(self) -> None:
         """Puts the voters in order, and the projects that could be demanded by themselves: unfunded ones first, so that
         one of these is in each demand."""
-        town, costs = self.town, self.costs
-        worth = [(1 if self._is_count else cost) if at in town.funded else 0 for at, cost in enumerate(costs)]
-        got = [sum(map(worth.__getitem__, ballot)) for ballot in town.ballots]
+        decided, costs = self.decided, self.costs
+        worth = [(1 if self._is_count else cost) if at in decided.funded else 0 for at, cost in enumerate(costs)]
+        got = [sum(map(worth.__getitem__, ballot)) for ballot in decided.ballots]
         self.order = sorted(range(len(got)), key=got.__getitem__)
         self.got = [got[voter] for voter in self.order]
         supporters = [0] * len(costs)
-        for ballot in town.ballots:
+        for ballot in decided.ballots:
             for project in ballot:
                 supporters[project] += 1
         candidates = [at for at, count in enumerate(supporters) if count and self._covers(count, costs[at])]
-        candidates.sort(key=lambda project: (project in town.funded, Fraction(costs[project], supporters[project])))
-        groups = _bits([town.ballots[voter] for voter in self.order], candidates)
+        candidates.sort(key=lambda project: (project in decided.funded, Fraction(costs[project], supporters[project])))
+        groups = _bits([decided.ballots[voter] for voter in self.order], candidates)
         self.candidates = [(project, groups[project]) for project in candidates]
         self._most = self._most_projects(set(candidates))
 
@@ -85,11 +85,11 @@ class Search:
             if total > self.limit:
                 break
             most += 1
-        return min(most, max((len(candidates.intersection(ballot)) for ballot in self.town.ballots), default=0))
+        return min(most, max((len(candidates.intersection(ballot)) for ballot in self.decided.ballots), default=0))
 
     def _covers(self, members: int, cost: int) -> bool:
         """Whether the share of so many voters in the limit covers a cost."""
-        return members * self.limit >= cost * len(self.town.ballots)
+        return members * self.limit >= cost * len(self.decided.ballots)
 
     def found(self) -> Searched:
         """The smallest demand of a violation, and of these the one whose group's share is most over its cost."""
@@ -117,7 +117,7 @@ class Search:
         missing, is_any = self._size - len(demand), False
         for at, (project, members) in enumerate(fitting):
             # A demand without an unfunded project is no violation.
-            if len(fitting) - at < missing or not demand and project in self.town.funded:
+            if len(fitting) - at < missing or not demand and project in self.decided.funded:
                 break
             if missing == 1:
                 self._judge([*demand, project], members, cost + self.costs[project])

@@ -71,7 +71,7 @@ def _roomy(problem: Problem, voters: Voters, weights: Weights) -> Weights:
 
 def _worth(problem: Problem, weights: Weights) -> Any:
     """What funded projects and Cover are worth by the weights."""
-    limit = problem.share * len(problem.town.ballots)
+    limit = problem.share * len(problem.decided.ballots)
     return problem.costs[problem.funded] @ weights.funded + weights.cover * limit
 
 
@@ -85,11 +85,11 @@ def _rounded(weights: Weights, scale: int) -> Iterator[Weights]:
 def holds(problem: Problem, voters: Voters, weights: Weights) -> bool:
     """U2 and U3, exactly."""
     each = zip(voters.sizes.tolist(), voters.whole_contributions(weights).tolist())
-    if sum(int(size) * own for size, own in each) + len(problem.town.ballots) * weights.cover > 0:
+    if sum(int(size) * own for size, own in each) + len(problem.decided.ballots) * weights.cover > 0:
         return False
-    costs = problem.town.costs
+    costs = problem.decided.costs
     over = sum((costs[at] * int(weight) for at, weight in zip(problem.funded, weights.funded)), Fraction(0))
-    over += problem.town.limit * weights.cover
+    over += problem.decided.limit * weights.cover
     over -= sum(costs[at] * int(weight) for at, weight in zip(problem.unfunded, weights.unfunded))
     return over > 0 or over == 0 and weights.cover > 0
 
@@ -110,7 +110,7 @@ def whole_of(problem: Problem, voters: Voters, weights: Weights) -> Whole:
     U2."""
     whole = {at: int(weight) for places, given in ((problem.funded, weights.funded), (problem.unfunded, weights.unfunded))
              for at, weight in zip(places, given) if weight}
-    free, contributions = problem.town.funded.difference(problem.funded), voters.whole_contributions(weights)
+    free, contributions = problem.decided.funded.difference(problem.funded), voters.whole_contributions(weights)
     for project in sorted(free):
         least = int(contributions[voters.supporters(project)].min(initial=0))
         if least:

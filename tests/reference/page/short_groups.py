@@ -85,7 +85,9 @@ class ShortFigures(Explained):
         """What the answer doesn't say, as meanings."""
         if self.short:
             return ["not_said.short.added", "not_said.violation.yes", "not_said.short.prices"]
-        return [f"not_said.short.{each}" for each in ("room", "limit", "little", "prices")]
+        # Where all that anybody wants was funded, no group got less than it deserves.
+        meant = ("limit", "prices") if self.shown() is None else ("room", "limit", "little", "prices")
+        return [f"not_said.short.{each}" for each in meant]
 
     def may_be_said(self):
         return [f"claims.short.{'some' if self.short else 'none'}_by_{self.measure}"]

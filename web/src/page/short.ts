@@ -122,12 +122,12 @@ function meansOf(teller: Teller, { isShort, group }: GroupsAnswer): string[] {
   const { words } = teller;
   if (!group) return [words.noneUnfunded];
   const { voters, supporters, most, need } = group, share = teller.part(group, amount => teller.money(amount));
-  const values = { voters: grouped(voters), share };
   if (isShort) {
-    return [fill(words.meansShort, values), fill(words.meansAll, { most: teller.money(most) })];
+    return [fill(words.meansShort, { share }), fill(words.meansAll, { most: teller.money(most) })];
   }
-  const more = { all: grouped(supporters), project: teller.named(group), need: teller.money(need) };
-  return [words.meansNone, fill(words.closestIs, { ...values, ...more, sum: teller.sum(group, "cost") })];
+  const values = { voters: grouped(voters), all: grouped(supporters), project: teller.named(group), share };
+  const sum = { need: teller.money(need), sum: teller.sum(group, "cost") };
+  return [words.meansNone, fill(words.closestIs, { ...values, ...sum })];
 }
 
 /** What the answer doesn't say. Where all that anybody wants was funded, no group got less than it deserves. */

@@ -285,7 +285,7 @@ export const GERMAN = translated({
   notProved: "Nicht bewiesen",
   meansHead: "Was das bedeutet",
   meansNotHead: "Was es nicht bedeutet",
-  meansShort: "In gleichen Teilen ausgegeben, hätte das Gesamtbudget diesen {voters} Abstimmenden {share} gebracht. Davon hätten sie das Projekt bezahlen können und so viel, wie für irgendeine dieser Personen gefördert wurde, ohne den Anteil anderer anzutasten.",
+  meansShort: "In gleichen Teilen ausgegeben, hätte das Gesamtbudget dieser Gruppe {share} gebracht. Davon hätte sie das Projekt bezahlen können und so viel, wie für irgendeine Person aus ihr gefördert wurde, ohne den Anteil anderer anzutasten.",
   meansAll: "Es sind alle, die es wollen und für die nicht mehr als {most} gefördert wurde.",
   meansNone: "Würde das Gesamtbudget in gleichen Teilen ausgegeben, könnte keine Gruppe, die sich auf ein solches Projekt einigt, dafür bezahlen und für so viel, wie für das Mitglied gefördert wurde, das am meisten bekam.",
   closestIs: "Am nächsten kommen {voters} von {all} Abstimmenden, die {project} wollen. Ihr Anteil ist {share}. Gebraucht hätten sie {need}: {sum}.",

@@ -284,7 +284,7 @@ export const ENGLISH = {
   notProved: "Not proved",
   meansHead: "What this means",
   meansNotHead: "What it doesn’t mean",
-  meansShort: "The limit, handed out in equal parts, would have given these {voters} voters {share}. With that they could have paid for the project, and for as much as was funded for any one of them, without touching anybody else’s part.",
+  meansShort: "The limit, handed out in equal parts, would have given this group {share}. With that its members could have paid for the project, and for as much as was funded for any one of them, without touching anybody else’s part.",
   meansAll: "They are all the voters who want it and for whom no more than {most} was funded.",
   meansNone: "If the limit were handed out in equal parts, no group that agrees on such a project could have paid for it and for as much as was funded for the member who got most.",
   closestIs: "Closest come {voters} of the {all} voters who want {project}. Their part is {share}. They would have needed {need}: {sum}.",

@@ -285,7 +285,7 @@ export const FRENCH = translated({
   notProved: "Non prouvé",
   meansHead: "Ce que cela veut dire",
   meansNotHead: "Ce que cela ne veut pas dire",
-  meansShort: "Distribuée en parts égales, l’enveloppe aurait donné {share} à ces {voters} votants. Cela leur aurait suffi pour payer le projet, et autant que ce qui a été financé pour n’importe lequel d’entre eux, sans toucher à la part des autres.",
+  meansShort: "Distribuée en parts égales, l’enveloppe aurait donné {share} à ce groupe. Cela aurait suffi à ses membres pour payer le projet, et autant que ce qui a été financé pour n’importe lequel d’entre eux, sans toucher à la part des autres.",
   meansAll: "Ce sont tous les votants qui le veulent et pour qui {most} au plus ont été financés.",
   meansNone: "Si l’enveloppe était distribuée en parts égales, aucun groupe d’accord sur un tel projet n’aurait pu payer à la fois ce projet et autant que ce qui a été financé pour le membre le mieux servi.",
   closestIs: "Les plus proches sont {voters} des {all} votants qui veulent {project}. Leur part est de {share}. Il leur aurait fallu {need} : {sum}.",

@@ -285,7 +285,7 @@ export const POLISH = translated({
   notProved: "Nie udowodniono",
   meansHead: "Co to znaczy",
   meansNotHead: "Czego z tego nie wynika",
-  meansShort: "Gdyby pulę rozdać po równo, ci głosujący ({voters}) dostaliby {share}. Mogliby za to zapłacić za projekt i za tyle, ile wybrano dla kogokolwiek z nich, nie ruszając części innych.",
+  meansShort: "Gdyby pulę rozdać po równo, ta grupa dostałaby {share}. Mogłaby za to zapłacić za projekt i za tyle, ile wybrano dla kogokolwiek z niej, nie ruszając części innych.",
   meansAll: "Są to wszyscy głosujący, którzy go chcą i dla których wybrano projekty za najwyżej {most}.",
   meansNone: "Gdyby pulę rozdać po równo, żadna grupa zgodna co do takiego projektu nie mogłaby zapłacić za niego i za tyle, ile wybrano dla członka, który dostał najwięcej.",
   closestIs: "Najbliżej jest grupa głosujących, którzy chcą projektu {project} (w grupie: {voters}, wszystkich: {all}). Ich część to {share}. Byłoby im potrzeba {need}: {sum}.",

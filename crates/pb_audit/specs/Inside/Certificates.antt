@@ -16,10 +16,10 @@ use Rattle.pb_price.specs.declared.Mode.{Mode}
 use Rattle.pb_reply.specs.Inputs.{Stated, StatesPrices}
 use Rattle.pb_reply.specs.Named.{PricesNameProject}
 use Rattle.pb_reply.specs.Replies.{Answer, Reply, with_input}
-use Rattle.pb_reply.specs.Inside.Taking.{stopped}
+use Rattle.pb_reply.specs.Inside.Taking.{reply_why}
 use Rattle.pb_input.specs.declared.InputName.{InputName}
 use Rattle.pb_input.specs.declared.InputName.TheVariants as name
-use Rattle.pb_reply.specs.declared.stop.Stop.{Stop}
+use Rattle.pb_reply.specs.declared.unanswered.Unanswered.{Unanswered}
 use Rattle.pb_reply.specs.declared.status.Status.{Status}
 use Rattle.pb_audit.specs.Answers.{AuditRules, tidy_answer}
 
@@ -37,9 +37,9 @@ Tells told is_reply own = (reply : Reply) × (is_reply reply × (own ≡ told re
 
 -- What some work came to, memory aside: what is told of one of these replies, or why an input was refused, on which the
 -- reply is one of these.
-abbrev pub IfTold : {T : Type 0} → (Reply → T) → (Reply → Type 0) → Result T Stop → Type 0
+abbrev pub IfTold : {T : Type 0} → (Reply → T) → (Reply → Type 0) → Result T Unanswered → Type 0
 IfTold told is_reply (Ok own) = Tells told is_reply own
-IfTold told is_reply (Err why) = IfSome (stopped why) is_reply
+IfTold told is_reply (Err why) = IfSome (reply_why why) is_reply
 
 -- the status of each reply on what a certificate of a kind states keeps what it promises
 abbrev pub Promised : {A : Type 0} → AuditRules A → Type 0

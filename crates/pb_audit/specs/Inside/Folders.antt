@@ -2,11 +2,11 @@
 use Rattle.std.specs.Prelude.{string_bytes}
 use Rattle.std.specs.Option.{option_map}
 use Rattle.pb_reply.specs.Inside.Loaded.{delivery_of}
-use Rattle.pb_audit.specs.Reports.{Files, Found}
+use Rattle.pb_audit.specs.Reports.{EntryFiles, Found}
 use Rattle.pb_audit.specs.declared.found.Found as code
 use Rattle.pb_audit.specs.declared.folder.Entry.{Entry}
 
-abbrev pub files_of : Entry → Files
+abbrev pub files_of : Entry → EntryFiles
 files_of entry = record {
   name = string_bytes entry.name;
   election = delivery_of entry.election;

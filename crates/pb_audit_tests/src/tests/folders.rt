@@ -52,7 +52,7 @@ fn entries_are_reported_at_once_or_one_by_one(rt: HostRuntime) -> Result<(), Fai
     for entry in &entries {
         one_by_one = one_by_one.add(alloc, entry)?;
     }
-    let report = one_by_one.finish()?;
+    let report = one_by_one.finish(alloc)?;
     let mut written = Vec::new(alloc);
     let status = report.write(&mut Output::new(&mut written))?;
     assert!(rt; status == FolderStatus::SomeRefused);
@@ -64,7 +64,7 @@ fn entries_are_reported_at_once_or_one_by_one(rt: HostRuntime) -> Result<(), Fai
 fn entries_are_reported_as_objects(rt: HostRuntime) -> Result<(), Fail> {
     let alloc = rt.alloc();
     let report = FolderReport::new(alloc, true, Mode::PLAIN);
-    let report = report.add(alloc, &unread(alloc)?)?.finish()?;
+    let report = report.add(alloc, &unread(alloc)?)?.finish(alloc)?;
     let want = "{\"election\":{\"answer\":\"refused\",\"input\":\"election\",\"kind\":\"refusal\",\
         \"name\":\"Read\",\"number\":18,\"record\":0,\"version\":1},\"kind\":\"entry\",\"name\":\"two\",\
         \"prices\":null,\"version\":1,\"violation\":null}\n\

@@ -19,16 +19,16 @@ use Rattle.pb_certificate.proofs.OnPrices.RowSteps.{last_voter-push, may-follow}
 
 -- the place in the file does not matter
 any-place : (has : Instance → Prices → Type 0) (s : Rows) (n : ℕ) (qs : List Payment) (t : Turn)
-    → Holds has (record s { place = n }) qs t → Holds has s qs t
+    → Holds has (record s { record_number = n }) qs t → Holds has s qs t
 any-place has s n qs t h = grind arith
 
 at-place : (has : Instance → Prices → Type 0) (s : Rows) (n : ℕ) (qs : List Payment) (t : Turn) → Holds has s qs t
-    → Holds has (record s { place = n }) qs t
-at-place has s n = any-place has (record s { place = n }) s.place
+    → Holds has (record s { record_number = n }) qs t
+at-place has s n = any-place has (record s { record_number = n }) s.record_number
 
 -- how far the rows behind the first were gathered
 pub record Gathers (has : Instance → Prices → Type 0) (first s : Rows) (t : Turn) : Type 0 where
-  pub at : s ≡ record first { place = s.place }
+  pub at : s ≡ record first { record_number = s.record_number }
   pub holds : Holds has s (given s) t
   pub done : t.done ≤ last_voter (given s) - 1
   pub voters : t.done ≤ voters s.election
@@ -50,9 +50,9 @@ gathers-row has has' first s new t next q g row adds done =
     ∙ last_voter-push (given s) (as_payment q) in
     let same : new.election ≡ s.election = ap (λ (x : Rows). x.election) row.same in
     record {
-      at = row.same ∙ ap (λ (x : Rows). record x { place = new.place }) g.at;
+      at = row.same ∙ ap (λ (x : Rows). record x { record_number = new.record_number }) g.at;
       holds = subst (λ (x : Rows). Holds has' x (given new) next) (sym row.same)
-          (at-place has' s new.place (given new) next
+          (at-place has' s new.record_number (given new) next
           (subst (λ (qs : List Payment). Holds has' s qs next) (sym row.given_then) holds));
       done = omega arith;
       voters = subst (λ (e : Instance). next.done ≤ voters e) (sym same) (omega arith);
@@ -63,9 +63,9 @@ pub gathers-all : (has : Instance → Prices → Type 0) (first s new : Rows) (t
     → GivesNone s new → HoldsAll has first t
 gathers-all has first s new t g none =
     record {
-      place = s.place;
+      record_number = s.record_number;
       states = subst (λ (x : Rows). IsPriceText x.records x.election (prices_given x)) g.at none.states;
-      holds = any-place has first s.place (given (record first { place = s.place })) t
+      holds = any-place has first s.record_number (given (record first { record_number = s.record_number })) t
           (subst (λ (x : Rows). Holds has x (given x) t) g.at g.holds);
       voters = subst (λ (x : Rows). t.done ≤ voters x.election) g.at g.voters;
     }
@@ -80,7 +80,7 @@ all-gathered has has' first t last n h closes done is = grind arith
 abbrev pub prices-by : ℕ → ℕ → ℕ → List (List (ℕ × ℕ)) → Prices
 prices-by m d b payments = record { projects = m; denominator = d; budget = b; payments = payments }
 
--- the prices that a ledger has, for the election and the records at hand
+-- the prices that a sink has, for the election and the records at hand
 pub states-all : (recs : List Rec) (e : Instance) (first : Rows) (has : Instance → Prices → Type 0)
     (h : GathersAll has first) → first.election ≡ e → first.records ≡ recs
     → IsPriceText recs e h.prices × has e h.prices
@@ -94,13 +94,13 @@ runs-state recs e first m d b runs h same_election same_records is_m is_d is_b =
 
 -- a refusal of a text of prices means out of memory
 pub text-refused : (recs : List Rec) (e : Instance) (p : Prices) (r : CertRefusal) → IsPriceText recs e p
-    → (r ≡ no_memory) ⊎ IsFirstFault (price_form e) recs r.place r.fault → r ≡ no_memory
+    → (r ≡ no_memory) ⊎ IsFirstFault (price_form e) recs r.record_number r.fault → r ≡ no_memory
 text-refused recs e p r text h =
-    elim h [ inl memory ↦ memory | inr first ↦ absurd (price-clear recs e p text r.place r.fault first) ]
+    elim h [ inl memory ↦ memory | inr first ↦ absurd (price-clear recs e p text r.record_number r.fault first) ]
 
 -- and so is one while its rows were gathered
 pub gathering-refused : (recs : List Rec) (e : Instance) (p : Prices) (first : Rows) (r : CertRefusal)
     → IsPriceText recs e p → first.election ≡ e → first.records ≡ recs
-    → (r ≡ no_memory) ⊎ IsFirstFault (price_form first.election) first.records r.place r.fault → r ≡ no_memory
+    → (r ≡ no_memory) ⊎ IsFirstFault (price_form first.election) first.records r.record_number r.fault → r ≡ no_memory
 gathering-refused recs e p first r text same_election same_records =
     rw (same_election, same_records) (text-refused recs e p r text)

@@ -44,7 +44,7 @@ head-fault : (e : Instance) (h : Awaited) (r : Rec) (f : CertFault) → awaits_r
 head-fault e h r f short is = rw (short, is) refl
 
 pub head-refused : (h : Awaited) (old new : Position) (f : CertFault) → awaits_row h ≡ false → MeetsRecord old new
-    → price_head h new.row ≡ Err f → RefusedInHead old h (record { fault = f; place = new.place })
+    → price_head h new.row ≡ Err f → RefusedInHead old h (record { fault = f; record_number = new.record_number })
 unfolding price_form
 head-refused h old new f short m is e recs before s =
     inr (refused-at (price_form e) recs old new before f s.stands m
@@ -58,17 +58,17 @@ not-text-form : (e : Instance) (before : List Rec) (r : Rec) → is_text r ≡ f
 unfolding price_form
 not-text-form e before r n = rw n refl
 
-refusal-is : (form : Form CertFault) (recs before : List Rec) (r : CertRefusal) (f : CertFault) (place : ℕ)
-    → r.fault ≡ f → r.place ≡ place → RefusedBehind form recs before (record { fault = f; place = place })
+refusal-is : (form : Form CertFault) (recs before : List Rec) (r : CertRefusal) (f : CertFault) (record_number : ℕ)
+    → r.fault ≡ f → r.record_number ≡ record_number → RefusedBehind form recs before (record { fault = f; record_number = record_number })
     → RefusedBehind form recs before r
-refusal-is form recs before r f place is at h = rw (sym is, sym at) at h
+refusal-is form recs before r f record_number is at h = rw (sym is, sym at) at h
 
 pub bytes-refused : (e : Instance) (recs before : List Rec) (old new : Position) (r : CertRefusal)
     → StandsBehind (price_form e) recs old before → Comes old new (Err r)
     → (r ≡ no_memory) ⊎ RefusedBehind (price_form e) recs before r
 bytes-refused e recs before old new r s comes = elim comes [
   | inl memory ↦ inl memory
-  | inr bad ↦ inr (refusal-is (price_form e) recs before r fault.NotUtf8 new.place bad.0 bad.1
+  | inr bad ↦ inr (refusal-is (price_form e) recs before r fault.NotUtf8 new.record_number bad.0 bad.1
       (refused-bytes (price_form e) recs old new before fault.NotUtf8 s bad.2
       (not-text-is-full bad.2.bad bad.2.is_not_utf8) (not-text-form e before bad.2.bad bad.2.is_not_utf8)))
 ]
@@ -77,7 +77,7 @@ pub none-met : (old new : Position) (r : CertRefusal) → Comes old new (Err r) 
 none-met old new r comes h short e recs before s = bytes-refused e recs before old new r s.stands comes
 
 pub head-ends : (old new : Position) → MeetsEnd old new
-    → NextHead old new (Err (record { fault = fault.BadHead; place = new.place + 1 }))
+    → NextHead old new (Err (record { fault = fault.BadHead; record_number = new.record_number + 1 }))
 unfolding price_form
 head-ends old new m h short e recs before s =
     inr (refused-end (price_form e) recs old new before fault.BadHead s.stands m

@@ -49,7 +49,7 @@ nonblank-joined xs ys = filter-append (λ x. not (is_blank x)) xs ys
 record Cut (form : Form CertFault) (recs : List Rec) (c : Position) (before : List Rec) : Type 0 where
   taken : List Rec
   cut : recs ≡ taken ++ c.left
-  many : length taken ≡ c.place
+  many : length taken ≡ c.record_number
   behind : nonblank taken ≡ before
   clear : (k : ℕ) → k ≤ length taken → fault_at form recs k ≡ None
 
@@ -59,7 +59,7 @@ cut-of form recs c before s = grind (arith, length-take-le, take-append-drop)
 
 -- a cursor that has gone over some records
 stands : (form : Form CertFault) (recs taken : List Rec) (c : Position) (before : List Rec) → recs ≡ taken ++ c.left
-    → length taken ≡ c.place → nonblank taken ≡ before
+    → length taken ≡ c.record_number → nonblank taken ≡ before
     → AllByRecursion (λ r. is_text r ≡ true) before → ((k : ℕ) → k ≤ length taken → fault_at form recs k ≡ None)
     → StandsBehind form recs c before
 stands form recs taken c before cut many behind text clear =
@@ -72,7 +72,7 @@ record Before (form : Form CertFault) (recs : List Rec) (old : Position) (blanks
     (before : List Rec) : Type 0 where
   taken : List Rec
   cut : recs ≡ taken ++ tail
-  many : length taken ≡ old.place + length blanks
+  many : length taken ≡ old.record_number + length blanks
   behind : nonblank taken ≡ before
   clear : (k : ℕ) → k ≤ length taken → fault_at form recs k ≡ None
 
@@ -82,14 +82,14 @@ before-of : (form : Form CertFault) (recs : List Rec) (old : Position) (blanks t
 before-of form recs old blanks tail before s none next =
     let c = cut-of form recs old before s in
     let long : recs ≡ c.taken ++ (blanks ++ tail) = c.cut ∙ ap (λ (xs : List Rec). c.taken ++ xs) next in
-    let place : length (c.taken ++ blanks) ≡ length c.taken + length blanks = length-append c.taken blanks in
+    let record_number : length (c.taken ++ blanks) ≡ length c.taken + length blanks = length-append c.taken blanks in
     let clear =
     clear-blanks form c.taken blanks tail none
     (λ k le. subst (λ (xs : List Rec). fault_at form xs k ≡ None) long (c.clear k le)) in
     record {
       taken = c.taken ++ blanks;
       cut = long ∙ sym (append_assoc c.taken blanks tail);
-      many = place ∙ ap (λ (n : ℕ). n + length blanks) c.many;
+      many = record_number ∙ ap (λ (n : ℕ). n + length blanks) c.many;
       behind = nonblank-joined c.taken blanks ∙ ap (λ (xs : List Rec). nonblank c.taken ++ xs) none
           ∙ append-nil (nonblank c.taken) ∙ c.behind;
       clear = λ k le. subst (λ (xs : List Rec). fault_at form xs k ≡ None) (sym long) (clear k (omega arith));
@@ -113,15 +113,15 @@ goes-behind form recs old new before s m none =
 
 -- the fault of a record that comes next
 refused-by : (form : Form CertFault) (recs : List Rec) (old : Position) (blanks rest before : List Rec) (r : Rec)
-    (f : CertFault) (place : ℕ) → StandsBehind form recs old before → nonblank blanks ≡ []
-    → old.left ≡ blanks ++ (r ∷ rest) → is_blank r ≡ false → place ≡ old.place + length blanks + 1
-    → form before (Some r) ≡ Some f → RefusedBehind form recs before (record { fault = f; place = place })
-refused-by form recs old blanks rest before r f place s none cut full at is =
+    (f : CertFault) (record_number : ℕ) → StandsBehind form recs old before → nonblank blanks ≡ []
+    → old.left ≡ blanks ++ (r ∷ rest) → is_blank r ≡ false → record_number ≡ old.record_number + length blanks + 1
+    → form before (Some r) ≡ Some f → RefusedBehind form recs before (record { fault = f; record_number = record_number })
+refused-by form recs old blanks rest before r f record_number s none cut full at is =
     let b = before-of form recs old blanks (r ∷ rest) before s none cut in
     let long : length recs ≡ length b.taken + length (r ∷ rest) = ap length b.cut ∙ length-append b.taken (r ∷ rest) in
     let here = form-here form recs b.taken rest before r b.cut b.behind full ∙ is in
-    let same : length b.taken + 1 ≡ place = omega arith in
-    let less : length b.taken ≡ place - 1 = omega arith in
+    let same : length b.taken + 1 ≡ record_number = omega arith in
+    let less : length b.taken ≡ record_number - 1 = omega arith in
     record {
       first =
           record {
@@ -129,31 +129,31 @@ refused-by form recs old blanks rest before r f place s none cut full at is =
             here = subst (λ (n : ℕ). fault_at form recs n ≡ Some f) same here;
             none_before = λ k lt. b.clear k (omega arith);
           };
-      behind = ap (λ (xs : List Rec). nonblank (take (place - 1) xs)) b.cut
+      behind = ap (λ (xs : List Rec). nonblank (take (record_number - 1) xs)) b.cut
           ∙ ap (λ (n : ℕ). nonblank (take n (b.taken ++ (r ∷ rest)))) (sym less)
           ∙ ap nonblank (take-append_seam b.taken (r ∷ rest)) ∙ b.behind;
     }
 
 pub refused-at : (form : Form CertFault) (recs : List Rec) (old new : Position) (before : List Rec) (f : CertFault)
     → StandsBehind form recs old before → MeetsRecord old new → form before (Some new.row) ≡ Some f
-    → RefusedBehind form recs before (record { fault = f; place = new.place })
+    → RefusedBehind form recs before (record { fault = f; record_number = new.record_number })
 refused-at form recs old new before f s m is =
-    refused-by form recs old m.blanks new.left before new.row f new.place s m.are_blank m.cut m.is_full m.at is
+    refused-by form recs old m.blanks new.left before new.row f new.record_number s m.are_blank m.cut m.is_full m.at is
 
 pub refused-bytes : (form : Form CertFault) (recs : List Rec) (old new : Position) (before : List Rec) (f : CertFault)
     → StandsBehind form recs old before → (m : MeetsNotText old new) → is_blank m.bad ≡ false
-    → form before (Some m.bad) ≡ Some f → RefusedBehind form recs before (record { fault = f; place = new.place })
+    → form before (Some m.bad) ≡ Some f → RefusedBehind form recs before (record { fault = f; record_number = new.record_number })
 refused-bytes form recs old new before f s m full is =
-    refused-by form recs old m.blanks m.rest before m.bad f new.place s m.are_blank m.cut full m.at is
+    refused-by form recs old m.blanks m.rest before m.bad f new.record_number s m.are_blank m.cut full m.at is
 
 -- the end
 pub at-end : (form : Form CertFault) (recs : List Rec) (old new : Position) (before : List Rec)
     → StandsBehind form recs old before → MeetsEnd old new
-    → StandsBehind form recs new before × (nonblank recs ≡ before) × (new.place ≡ length recs)
+    → StandsBehind form recs new before × (nonblank recs ≡ before) × (new.record_number ≡ length recs)
 at-end form recs old new before s m =
     let b = before-of form recs old old.left [] before s m.are_blank (sym (append-nil old.left)) in
     let all : recs ≡ b.taken = b.cut ∙ append-nil b.taken in
-    let place : new.place ≡ old.place + length old.left = m.at in (
+    let record_number : new.record_number ≡ old.record_number + length old.left = m.at in (
       stands form recs b.taken new before (b.cut ∙ ap (λ (xs : List Rec). b.taken ++ xs) (sym m.none_left))
           (omega arith) b.behind s.text b.clear,
       ap nonblank all ∙ b.behind,
@@ -162,12 +162,12 @@ at-end form recs old new before s m =
 
 pub refused-end : (form : Form CertFault) (recs : List Rec) (old new : Position) (before : List Rec) (f : CertFault)
     → StandsBehind form recs old before → MeetsEnd old new → form before None ≡ Some f
-    → RefusedBehind form recs before (record { fault = f; place = new.place + 1 })
+    → RefusedBehind form recs before (record { fault = f; record_number = new.record_number + 1 })
 refused-end form recs old new before f s m is =
     let end = at-end form recs old new before s m in
-    let place : new.place ≡ length recs = end.2 in
-    let same : suc (length recs) ≡ new.place + 1 = omega arith in
-    let less : length recs ≡ new.place + 1 - 1 = omega arith in
+    let record_number : new.record_number ≡ length recs = end.2 in
+    let same : suc (length recs) ≡ new.record_number + 1 = omega arith in
+    let less : length recs ≡ new.record_number + 1 - 1 = omega arith in
     let all : take (length recs) recs ≡ recs = take_all (length recs) recs (omega arith) in
     let here : fault_at form recs (suc (length recs)) ≡ Some f =
     rw (slice_get_past recs (length recs) (omega arith), all, end.1) is in

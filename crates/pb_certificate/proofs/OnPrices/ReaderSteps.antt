@@ -181,7 +181,7 @@ row-form old r f h text why =
 
 row-refused : (old : RowReader) (new : Position) (f : CertFault) → IsReading old → MeetsRecord old.cursor new
     → (row_fault old.election.now new.row ≡ Some f) ⊎ RefusesPayment old.election.now new.row old.prior f
-    → RefusesNext (place_of old) (record { fault = f; place = new.place })
+    → RefusesNext (place_of old) (record { fault = f; record_number = new.record_number })
 row-refused old new f h m why =
     let e = old.election.now in
     record {
@@ -201,23 +201,23 @@ row-refused old new f h m why =
 
 -- a row is given or refused
 pub row-answered : (old : RowReader) (cursor : Position) (prior : PriorRows) (taken : Result PriceRow CertFault)
-    (place : ℕ) (r : Result (Option PriceRow) CertRefusal) → IsReading old → MeetsRecord old.cursor cursor
+    (record_number : ℕ) (r : Result (Option PriceRow) CertRefusal) → IsReading old → MeetsRecord old.cursor cursor
     → TakesRecord old.election.now cursor.row old.prior prior taken
-    → length prior.last_payers.items ≡ length old.prior.last_payers.items → place ≡ cursor.place
-    → MatchResult taken (λ q. r ≡ Ok (Some q)) (λ f. r ≡ Err (record { fault = f; place = place }))
+    → length prior.last_payers.items ≡ length old.prior.last_payers.items → record_number ≡ cursor.record_number
+    → MatchResult taken (λ q. r ≡ Ok (Some q)) (λ f. r ≡ Err (record { fault = f; record_number = record_number }))
     → Advances old (record old { cursor = cursor; prior = prior }) r
-row-answered old cursor prior taken place r h m takes many at is = grind (arith, row-taken, row-refused)
+row-answered old cursor prior taken record_number r h m takes many at is = grind (arith, row-taken, row-refused)
 
 pub triple-answered : (old : RowReader) (cursor : Position) (t : Triple) (prior : PriorRows)
-    (taken : Result PriceRow CertFault) (place : ℕ) (r : Result (Option PriceRow) CertRefusal) → IsReading old
+    (taken : Result PriceRow CertFault) (record_number : ℕ) (r : Result (Option PriceRow) CertRefusal) → IsReading old
     → MeetsTriple t old.cursor cursor
     → ((r : Rec) → IsTriple t r → TakesRecord old.election.now r old.prior prior taken)
-    → length prior.last_payers.items ≡ length old.prior.last_payers.items → place ≡ cursor.place
-    → MatchResult taken (λ q. r ≡ Ok (Some q)) (λ f. r ≡ Err (record { fault = f; place = place }))
+    → length prior.last_payers.items ≡ length old.prior.last_payers.items → record_number ≡ cursor.record_number
+    → MatchResult taken (λ q. r ≡ Ok (Some q)) (λ f. r ≡ Err (record { fault = f; record_number = record_number }))
     → Advances old (record old { cursor = cursor; prior = prior }) r
-triple-answered old cursor t prior (Ok q) place r h m takes many at is =
+triple-answered old cursor t prior (Ok q) record_number r h m takes many at is =
     rw is (triple-taken old cursor t prior q h m (takes m.row m.fields) many)
-triple-answered old cursor t prior (Err f) place r h m takes many at is =
+triple-answered old cursor t prior (Err f) record_number r h m takes many at is =
     rw (is, at) (inr (row-refused old (record cursor { row = m.row }) f h m.met (takes m.row m.fields)))
 
 -- no record is met
@@ -278,16 +278,16 @@ none-left old cursor h m =
     )
 
 -- the start
-at-start : (e : Instance) (recs : List Rec) (c : Position) → c.place ≡ 0 → c.left ≡ recs
+at-start : (e : Instance) (recs : List Rec) (c : Position) → c.record_number ≡ 0 → c.left ≡ recs
     → StandsBehind (price_form e) recs c []
 unfolding price_form
-at-start e recs c place left = grind arith
+at-start e recs c record_number left = grind arith
 
-pub opened : (e : Instance) (recs : List Rec) (c : Position) → c.place ≡ 0 → c.left ≡ recs
+pub opened : (e : Instance) (recs : List Rec) (c : Position) → c.record_number ≡ 0 → c.left ≡ recs
     → StandsInHead e recs c [] Name
 unfolding price_form
-opened e recs c place left =
-    record { stands = at-start e recs c place left; taken = nothing-taken (price_kind e) }
+opened e recs c record_number left =
+    record { stands = at-start e recs c record_number left; taken = nothing-taken (price_kind e) }
 
 pub refused-in-head : (recs : List Rec) (e : Instance) (new : Position) (r : CertRefusal) → ReadsHead e recs new (Err r)
     → IsInHead recs r

@@ -11,7 +11,7 @@ use Rattle.std.proofs.lemmas.List.Sums.{sum_by-append, sum_by-cons}
 use Rattle.pb_records.proofs.Each.{all-push, all-weaker}
 use Rattle.pb_records.proofs.Lists.{map-same}
 use Rattle.pb_certificate.specs.Inside.Prices.Gathering.{Holds, payments_made, prices_up_to, stated_by, stated_up_to}
-use Rattle.pb_certificate.specs.Inside.Prices.Ledgers.{CanTake, with_voter}
+use Rattle.pb_certificate.specs.Inside.Prices.PaymentSinks.{CanTake, with_voter}
 use Rattle.pb_certificate.specs.Prices.{IsPaymentMap, Prices}
 use Rattle.pb_certificate.specs.Prices.Rows.{Rows}
 use Rattle.pb_election.specs.Instance.{Instance, projects}
@@ -89,7 +89,7 @@ one-more s qs n run is =
     ∙ sym
     (ap (stated_up_to (projects s.election) qs) (add-one n) ∙ map-push (stated_by (projects s.election) qs) n 1)
 
--- the ledger can take them
+-- the sink can take them
 pub can-take : (has : Instance → Prices → Type 0) (s : Rows) (qs : List Payment) (t : Turn) (run : List (ℕ × ℕ))
     → Holds has s qs t → IsNonDecreasingBy (λ p. p.0) run → IsPermutation t.payments.items run
     → CanTake has (t.done + 1) run

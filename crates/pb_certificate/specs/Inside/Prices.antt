@@ -3,6 +3,7 @@ pub mod Places
 pub mod Head
 pub mod PriorRows
 pub mod RowReader
-pub mod Ledgers
+pub mod PaymentSinks
 pub mod Gathering
 pub mod CanonicalDrafts
+pub mod StatedRow

@@ -18,11 +18,11 @@ pub record Rows : Type 0 where
   pub records : List Rec
   pub denominator : ℕ
   pub budget : ℕ
-  pub place : ℕ
+  pub record_number : ℕ
 
 -- the payments that the rows behind state, in their order, those of 0 too: all records behind but the four of the head
 abbrev pub given : Rows → List Payment
-given s = filter_map (payment_of s.election) (drop 4 (nonblank (take s.place s.records)))
+given s = filter_map (payment_of s.election) (drop 4 (nonblank (take s.record_number s.records)))
 
 -- the prices that these rows state
 abbrev pub prices_given : Rows → Prices
@@ -39,27 +39,27 @@ prices_given s =
 pub record IsBetweenRows (s : Rows) : Type 0 where
   pub heads : List Rec
   pub rows : List Rec
-  pub behind : nonblank (take s.place s.records) ≡ heads ++ rows
+  pub behind : nonblank (take s.record_number s.records) ≡ heads ++ rows
   pub is_head : IsPriceHead s.denominator s.budget heads
   pub each_row : map (payment_of s.election) rows ≡ map Some (given s)
-  pub within : s.place ≤ length s.records
-  pub clear : (k : ℕ) → k ≤ s.place → fault_at (price_form s.election) s.records k ≡ None
+  pub within : s.record_number ≤ length s.records
+  pub clear : (k : ℕ) → k ≤ s.record_number → fault_at (price_form s.election) s.records k ≡ None
 
 -- behind some blank records, the next that is not blank is this one, at this place
-pub record ComesNext (s : Rows) (place : ℕ) (r : Rec) : Type 0 where
+pub record ComesNext (s : Rows) (record_number : ℕ) (r : Rec) : Type 0 where
   pub blanks : List Rec
   pub rest : List Rec
   pub are_blank : nonblank blanks ≡ []
   pub is_full : is_blank r ≡ false
-  pub cut : drop s.place s.records ≡ blanks ++ (r ∷ rest)
-  pub at : place ≡ s.place + length blanks + 1
+  pub cut : drop s.record_number s.records ≡ blanks ++ (r ∷ rest)
+  pub at : record_number ≡ s.record_number + length blanks + 1
 
 -- the next record was given as a row
 pub record GivesRow (old new : Rows) (q : PriceRow) : Type 0 where
   pub record_of : Rec
-  pub next : ComesNext old new.place record_of
+  pub next : ComesNext old new.record_number record_of
   pub states : payment_of old.election record_of ≡ Some (as_payment q)
-  pub same : new ≡ record old { place = new.place }
+  pub same : new ≡ record old { record_number = new.record_number }
   pub between : IsBetweenRows new
   pub given_then : given new ≡ given old ++ (as_payment q ∷ [])
   pub voter : IsVoter old.election q.voter
@@ -69,8 +69,8 @@ pub record GivesRow (old new : Rows) (q : PriceRow) : Type 0 where
 
 -- no row was left to give, and all rows together are the text of the prices that they state
 pub record GivesNone (old new : Rows) : Type 0 where
-  pub no_row_left : nonblank (drop old.place old.records) ≡ []
-  pub same : new ≡ record old { place = new.place }
+  pub no_row_left : nonblank (drop old.record_number old.records) ≡ []
+  pub same : new ≡ record old { record_number = new.record_number }
   pub between : IsBetweenRows new
   pub given_then : given new ≡ given old
   pub states : IsPriceText old.records old.election (prices_given old)
@@ -78,9 +78,9 @@ pub record GivesNone (old new : Rows) : Type 0 where
 -- the next record is where the file is refused
 pub record RefusesNext (s : Rows) (r : CertRefusal) : Type 0 where
   pub record_of : Rec
-  pub next : ComesNext s r.place record_of
-  pub first : IsFirstFault (price_form s.election) s.records r.place r.fault
+  pub next : ComesNext s r.record_number record_of
+  pub first : IsFirstFault (price_form s.election) s.records r.record_number r.fault
 
 -- the file is refused before its first row
 abbrev pub IsInHead : List Rec → CertRefusal → Type 0
-IsInHead records r = (r ≡ no_memory) ⊎ (length (nonblank (take (r.place - 1) records)) < 4)
+IsInHead records r = (r ≡ no_memory) ⊎ (length (nonblank (take (r.record_number - 1) records)) < 4)

@@ -9,7 +9,7 @@ ghost use Rattle.pb_certificate.specs.Prices.Text.{Payment};
 ghost use Rattle.pb_certificate.specs.Prices.Rows.{given, Rows as Place};
 ghost use Rattle.pb_certificate.specs.Prices.{most_numerator};
 
-use crate::prices::ledger::Ledger;
+use crate::prices::payment_sink::PaymentSink;
 use crate::{CertRefusal, PriceRow, Rows};
 use std::alloc::{AllocError, Global};
 
@@ -24,43 +24,43 @@ struct Turn {
 
 impl Turn {
     // Hands on the payments of the voter at hand, in order, and goes on to the next.
-    fn close<L: Ledger>(&mut self, ledger: &mut L) -> Result<(), AllocError>
-        requires some { HoldSome (L.Has ledger.old) self.old }
+    fn close<L: PaymentSink>(&mut self, sink: &mut L) -> Result<(), AllocError>
+        requires some { HoldSome (L.Has sink.old) self.old }
         requires room { self.old.done + 1 < 2 ^ 32 }
-        ensures holds { (s : Place) (qs : List Payment) → Holds (L.Has ledger.old) s qs self.old → OnOk result (Holds (L.Has ledger.new) s qs self.new) }
+        ensures holds { (s : Place) (qs : List Payment) → Holds (L.Has sink.old) s qs self.old → OnOk result (Holds (L.Has sink.new) s qs self.new) }
         ensures done { OnOk result (self.new.done ≡ self.old.done + 1) }
     {
         self.payments.sort_unstable_by_key(|payment| payment.0);
-        ledger.take(self.done + 1, &self.payments)?;
+        sink.take(self.done + 1, &self.payments)?;
         self.payments.clear();
         self.done += 1;
         Ok(())
     }
 
     // Goes on until so many voters are done.
-    fn close_up_to<L: Ledger>(&mut self, ledger: &mut L, voters: u32) -> Result<(), AllocError>
-        requires some { HoldSome (L.Has ledger.old) self.old }
+    fn close_up_to<L: PaymentSink>(&mut self, sink: &mut L, voters: u32) -> Result<(), AllocError>
+        requires some { HoldSome (L.Has sink.old) self.old }
         requires voters { self.old.done ≤ voters }
-        ensures holds { (s : Place) (qs : List Payment) → Holds (L.Has ledger.old) s qs self.old → OnOk result (Holds (L.Has ledger.new) s qs self.new) }
+        ensures holds { (s : Place) (qs : List Payment) → Holds (L.Has sink.old) s qs self.old → OnOk result (Holds (L.Has sink.new) s qs self.new) }
         ensures done { OnOk result (self.new.done ≡ voters) }
     {
         while self.done < voters {
-            self.close(ledger)?;
+            self.close(sink)?;
         }
         Ok(())
     }
 
     // Adds a row, behind the rows of the voters before it and of its own.
-    fn add<L: Ledger>(&mut self, ledger: &mut L, row: PriceRow) -> Result<(), AllocError>
-        requires some { HoldSome (L.Has ledger.old) self.old }
+    fn add<L: PaymentSink>(&mut self, sink: &mut L, row: PriceRow) -> Result<(), AllocError>
+        requires some { HoldSome (L.Has sink.old) self.old }
         requires voter { 1 ≤ row.voter }
         requires done { self.old.done ≤ row.voter - 1 }
         requires project { 1 ≤ row.project }
         requires small { row.payment ≤ most_numerator }
-        ensures holds { (s : Place) (qs : List Payment) → Holds (L.Has ledger.old) s qs self.old → WhereNew s qs (as_payment row) (OnOk result (Holds (L.Has ledger.new) s (qs ++ as_payment row ∷ []) self.new)) }
+        ensures holds { (s : Place) (qs : List Payment) → Holds (L.Has sink.old) s qs self.old → WhereNew s qs (as_payment row) (OnOk result (Holds (L.Has sink.new) s (qs ++ as_payment row ∷ []) self.new)) }
         ensures done { OnOk result (self.new.done ≡ row.voter - 1) }
     {
-        self.close_up_to(ledger, row.voter - 1)?;
+        self.close_up_to(sink, row.voter - 1)?;
         if row.payment > 0 {
             self.payments.push((row.project, row.payment))?;
         }
@@ -69,12 +69,12 @@ impl Turn {
 }
 
 // Adds all rows, or tells the first fault.
-fn add_all<L: Ledger>(mut rows: Rows, ledger: &mut L, turn: &mut Turn) -> Result<(), CertRefusal>
+fn add_all<L: PaymentSink>(mut rows: Rows, sink: &mut L, turn: &mut Turn) -> Result<(), CertRefusal>
     requires none { given rows ≡ [] }
-    requires holds { Holds (L.Has ledger.old) rows [] turn.old }
+    requires holds { Holds (L.Has sink.old) rows [] turn.old }
     requires done { turn.old.done ≡ 0 }
-    ensures all { OnOk result (HoldsAll (L.Has ledger.new) rows.entry turn.new) }
-    ensures refused { IfErr result (λ r. (r ≡ no_memory) ⊎ IsFirstFault (price_form (rows.entry).election) (rows.entry).records r.place r.fault) }
+    ensures all { OnOk result (HoldsAll (L.Has sink.new) rows.entry turn.new) }
+    ensures refused { IfErr result (λ r. (r ≡ no_memory) ⊎ IsFirstFault (price_form (rows.entry).election) (rows.entry).records r.record_number r.fault) }
 {
     'gather: loop {
         let (behind, row) = rows.next()?;
@@ -82,32 +82,32 @@ fn add_all<L: Ledger>(mut rows: Rows, ledger: &mut L, turn: &mut Turn) -> Result
         let Some(row) = row else {
             return Ok(());
         };
-        let Ok(()) = turn.add(ledger, row) else {
+        let Ok(()) = turn.add(sink, row) else {
             return Err(CertRefusal::NO_MEMORY);
         };
     }
 }
 
-/// Hands the payments of all rows, for so many voters, to a ledger that has none yet, or tells the first fault. After
-/// an error it is left open what the ledger has.
-pub fn gather<L: Ledger>(
+/// Hands the payments of all rows, for so many voters, to a sink that has none yet, or tells the first fault. After
+/// an error it is left open what the sink has.
+pub fn gather<L: PaymentSink>(
     alloc: Global,
     rows: Rows,
     voters: u32,
-    ledger: &mut L,
+    sink: &mut L,
 ) -> Result<(), CertRefusal>
     requires none { given rows ≡ [] }
-    requires empty { L.Has ledger.old rows.election (prices_up_to rows [] 0) }
+    requires empty { L.Has sink.old rows.election (prices_up_to rows [] 0) }
     requires voters { voters ≡ spec.voters rows.election }
-    ensures all { OnOk result (GathersAll (L.Has ledger.new) rows.entry) }
-    ensures refused { IfErr result (λ r. (r ≡ no_memory) ⊎ IsFirstFault (price_form (rows.entry).election) (rows.entry).records r.place r.fault) }
+    ensures all { OnOk result (GathersAll (L.Has sink.new) rows.entry) }
+    ensures refused { IfErr result (λ r. (r ≡ no_memory) ⊎ IsFirstFault (price_form (rows.entry).election) (rows.entry).records r.record_number r.fault) }
 {
     let mut turn = Turn {
         done: 0,
         payments: Vec::new(alloc),
     };
-    add_all(rows, ledger, &mut turn)?;
-    let Ok(()) = turn.close_up_to(ledger, voters) else {
+    add_all(rows, sink, &mut turn)?;
+    let Ok(()) = turn.close_up_to(sink, voters) else {
         return Err(CertRefusal::NO_MEMORY);
     };
     Ok(())

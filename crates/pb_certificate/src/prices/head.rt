@@ -31,17 +31,17 @@ fn next_head(cursor: &mut Cursor) -> Result<(), CertRefusal>
     }
     Err(CertRefusal {
         fault: CertFault::BadHead,
-        place: cursor.place() + 1,
+        record_number: cursor.record_number() + 1,
     })
 }
 
 // The refusal for a fault of the record that was given last.
 fn refused_here(cursor: &Cursor, fault: CertFault) -> CertRefusal
-    ensures { result ≡ record { fault = fault; place = (cursor.now).place } }
+    ensures { result ≡ record { fault = fault; record_number = (cursor.now).record_number } }
 {
     CertRefusal {
         fault,
-        place: cursor.place(),
+        record_number: cursor.record_number(),
     }
 }
 

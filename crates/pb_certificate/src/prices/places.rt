@@ -13,7 +13,7 @@ pub fn next_record(cursor: &mut Cursor) -> Result<bool, CertRefusal>
         Ok(Next::End) => Ok(false),
         Ok(Next::NotText) => Err(CertRefusal {
             fault: CertFault::NotUtf8,
-            place: cursor.place(),
+            record_number: cursor.record_number(),
         }),
         Err(_) => Err(CertRefusal::NO_MEMORY),
     }

@@ -1,11 +1,12 @@
 //! The rows of a price certificate.
-ghost use Rattle.std.specs.Prelude.{◌≡◌, ◌≤◌, ◌==◌, None, Some, MatchResult, IfOk, length};
+ghost use Rattle.std.specs.Prelude.{◌≡◌, ◌≤◌, ◌==◌, None, Some, MatchResult, IfOk, IfSome, length};
 ghost use Rattle.csv.specs.Records.{fields_of};
 ghost use Rattle.pb_election.specs.Instance.{IsProject, IsVoter};
 ghost use Rattle.pb_records.specs.Cells as spec;
 ghost use Rattle.pb_records.specs.Inside.Lines.{IsTriple};
 ghost use Rattle.pb_records.specs.Records.{Rec};
-ghost use Rattle.pb_certificate.specs.Fields.{fields};
+ghost use Rattle.pb_certificate.specs.Fields.{fields, project_in};
+ghost use Rattle.pb_certificate.specs.Inside.Prices.StatedRow.{stated_row};
 ghost use Rattle.pb_certificate.specs.Prices.Text.{payment_of};
 ghost use Rattle.pb_certificate.specs.Prices.RowFaults.{as_payment, row_fault};
 ghost use Rattle.pb_certificate.specs.Prices.{most_numerator};
@@ -52,15 +53,7 @@ pub fn price_row(row: &StringRecord, election: &Election) -> Result<PriceRow, Ce
     }
     let voter = voter_in(cell(row, 0), election)?;
     let payment = whole_within(0, MOST_NUMERATOR, payment).ok_or(CertFault::BadNumber)?;
-    let voter = voter.ok_or(CertFault::UnknownVoter)?;
-    let project = election
-        .find(cell(row, 1))
-        .ok_or(CertFault::UnknownProject)?;
-    Ok(PriceRow {
-        voter,
-        project,
-        payment,
-    })
+    row_of(election, voter, cell(row, 1), payment)
 }
 
 /// The same of a record of three fields whose numbers were read.
@@ -71,15 +64,37 @@ pub fn triple_row(triple: Triple, election: &Election) -> Result<PriceRow, CertF
     ensures project { IfOk result (λ q. IsProject election.now q.project) }
     ensures payment { IfOk result (λ q. q.payment ≡ triple.entry.third) }
 {
-    let Some(voter) = voter_numbered(triple.first, election) else {
+    let voter = voter_numbered(triple.first, election);
+    row_of(
+        election,
+        voter,
+        clean(triple.second),
+        u128::from(triple.third),
+    )
+}
+
+// The row of a voter, where there is one, and of the project that has this id.
+fn row_of(
+    election: &Election,
+    voter: Option<u32>,
+    id: &str,
+    payment: u128,
+) -> Result<PriceRow, CertFault>
+    requires { IfSome voter (IsVoter election.now) }
+    ensures value { result ≡ stated_row voter (project_in election.now id.now) payment }
+    ensures voter { IfOk result (λ q. IsVoter election.now q.voter) }
+    ensures project { IfOk result (λ q. IsProject election.now q.project) }
+    ensures payment { IfOk result (λ q. q.payment ≡ payment) }
+{
+    let Some(voter) = voter else {
         return Err(CertFault::UnknownVoter);
     };
-    let Some(project) = election.find(clean(triple.second)) else {
+    let Some(project) = election.find(id) else {
         return Err(CertFault::UnknownProject);
     };
     Ok(PriceRow {
         voter,
         project,
-        payment: u128::from(triple.third),
+        payment,
     })
 }

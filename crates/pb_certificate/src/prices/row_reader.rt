@@ -69,22 +69,28 @@ impl<'a> RowReader<'a> {
     {
         if let Some(triple) = self.cursor.take_triple() {
             let taken = self.prior.take_triple(triple, self.election);
-            return answer(taken, self.cursor.place());
+            return answer(taken, self.cursor.record_number());
         }
         if !next_record(&mut self.cursor)? {
             return Ok(None);
         }
         let taken = self.prior.take(self.cursor.row(), self.election);
-        answer(taken, self.cursor.place())
+        answer(taken, self.cursor.record_number())
     }
 }
 
-// A row as it is given, or its fault with the place of its record.
-fn answer(taken: Result<PriceRow, CertFault>, place: u64) -> Result<Option<PriceRow>, CertRefusal>
-    ensures { MatchResult taken (λ row. result ≡ Ok (Some row)) (λ fault. result ≡ Err (record { fault = fault; place = place })) }
+// A row as it is given, or its fault with the number of its record.
+fn answer(
+    taken: Result<PriceRow, CertFault>,
+    record_number: u64,
+) -> Result<Option<PriceRow>, CertRefusal>
+    ensures { MatchResult taken (λ row. result ≡ Ok (Some row)) (λ fault. result ≡ Err (record { fault = fault; record_number = record_number })) }
 {
     match taken {
         Ok(row) => Ok(Some(row)),
-        Err(fault) => Err(CertRefusal { fault, place }),
+        Err(fault) => Err(CertRefusal {
+            fault,
+            record_number,
+        }),
     }
 }

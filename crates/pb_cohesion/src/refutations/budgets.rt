@@ -3,9 +3,9 @@
 ghost use Rattle.std.specs.Prelude.{◌≡◌, ◌≤◌, ◌+◌, ◌*◌, filter, length, not, sum_by};
 ghost use Rattle.pb_election.specs.Instance.{IsSet, most_projects};
 ghost use Rattle.pb_election.specs.Outcome.{OutcomeFits, has};
-ghost use Rattle.pb_certificate.specs.Refutations.{most_weight, row_of, weight};
+ghost use Rattle.pb_certificate.specs.Refutations.{most_weight, weight};
 ghost use Rattle.pb_cohesion.specs.Amounts.{largest_by};
-ghost use Rattle.pb_cohesion.specs.Refutations.{budgets_counted, budgets_taken, counted_in};
+ghost use Rattle.pb_cohesion.specs.Refutations.{budgets_counted, budgets_taken, counts, positive_part};
 
 use pb_certificate::{Refutation, Role};
 use pb_election::{Election, Outcome};
@@ -56,7 +56,7 @@ pub(super) fn most_counted(
 ) -> u64
     requires ballot { IsSet 1 (length (outcome.now).marks) ballot.now }
     requires few { left ≤ most_projects * most_weight }
-    ensures value { result ≡ largest_by (λ j. counted_in (row_of refutation.now j) left) (filter (has (outcome.now).marks) ballot.now) }
+    ensures value { result ≡ largest_by (λ j. positive_part (counts refutation.now left j)) (filter (has (outcome.now).marks) ballot.now) }
     ensures small { result ≤ (most_projects + 1) * most_weight }
 {
     let mut most = 0;
@@ -72,7 +72,7 @@ pub(super) fn most_counted(
 pub(super) fn counted(refutation: &Refutation, j: u32, left: u64) -> u64
     requires project { 1 ≤ j }
     requires few { left ≤ most_projects * most_weight }
-    ensures value { result ≡ counted_in (row_of refutation.now j) left }
+    ensures value { result ≡ positive_part (counts refutation.now left j) }
     ensures small { result ≤ (most_projects + 1) * most_weight }
 {
     let weight = refutation.weight(j);

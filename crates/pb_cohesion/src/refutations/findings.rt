@@ -1,10 +1,10 @@
 //! What each test of a refutation comes to, also of those behind the first that fails.
 
-ghost use Rattle.std.specs.Prelude.{◌≡◌, ◌≤◌};
+ghost use Rattle.std.specs.Prelude.{◌≡◌, ◌≤◌, not};
 ghost use Rattle.pb_election.specs.Outcome.{OutcomeFits};
 ghost use Rattle.pb_certificate.specs.Refutations.{WeightsFit, row_of};
 ghost use Rattle.pb_cohesion.specs.RefutationFindings as spec;
-ghost use Rattle.pb_cohesion.specs.Refutations.{is_misplaced};
+ghost use Rattle.pb_cohesion.specs.Refutations.{suits};
 
 use super::budgets::budgets;
 use super::costs::costs;
@@ -60,7 +60,7 @@ fn misplaced_rows(election: &Election, outcome: &Outcome, refutation: &Refutatio
 // Whether a project has a row that is not one for projects that are funded so.
 fn is_misplaced(refutation: &Refutation, j: u32, is_funded: bool) -> bool
     requires { 1 ≤ j }
-    ensures { result ≡ is_misplaced is_funded (row_of refutation.now j) }
+    ensures { result ≡ not (suits is_funded (row_of refutation.now j)) }
 {
     match refutation.role(j) {
         Some(Role::Left) => is_funded,

@@ -3,9 +3,9 @@
 ghost use Rattle.std.specs.Prelude.{◌≡◌, ◌≤◌, ◌+◌, ◌*◌, filter, length};
 ghost use Rattle.pb_election.specs.Instance.{IsSet, most_projects};
 ghost use Rattle.pb_election.specs.Outcome.{OutcomeFits, has};
-ghost use Rattle.pb_certificate.specs.Refutations.{most_weight, row_of};
+ghost use Rattle.pb_certificate.specs.Refutations.{most_weight};
 ghost use Rattle.pb_cohesion.specs.Amounts.{largest_by};
-ghost use Rattle.pb_cohesion.specs.Refutations.{counted_above, counted_in, is_made_up, least_below, stable_budgets_counted};
+ghost use Rattle.pb_cohesion.specs.Refutations.{above, counts, is_made_up, least_below, positive_part, stable_budgets_counted};
 
 use super::budgets::{counted, most_counted, taken_left};
 use pb_certificate::Refutation;
@@ -35,7 +35,7 @@ fn stable_counted(outcome: &Outcome, refutation: &Refutation, ballot: &[u32], le
     requires ballot { IsSet 1 (length (outcome.now).marks) ballot.now }
     requires short { length ballot.now ≤ most_projects }
     requires few { left ≤ most_projects * most_weight }
-    ensures value { result ≡ least_below (largest_by (λ j. counted_in (row_of refutation.now j) left) (filter (has (outcome.now).marks) ballot.now)) (is_made_up refutation.now left (filter (has (outcome.now).marks) ballot.now)) }
+    ensures value { result ≡ least_below (largest_by (λ j. positive_part (counts refutation.now left j)) (filter (has (outcome.now).marks) ballot.now)) (is_made_up refutation.now left (filter (has (outcome.now).marks) ballot.now)) }
     ensures small { result ≤ (most_projects + 1) * most_weight }
 {
     let mut low = 0;
@@ -72,7 +72,7 @@ fn counted_above(
     requires ballot { IsSet 1 (length (outcome.now).marks) ballot.now }
     requires short { length ballot.now ≤ most_projects }
     requires few { left ≤ most_projects * most_weight }
-    ensures { result ≡ counted_above refutation.now left (filter (has (outcome.now).marks) ballot.now) x }
+    ensures { result ≡ above refutation.now left (filter (has (outcome.now).marks) ballot.now) x }
 {
     let mut above = 0;
     for j in ballot {

@@ -5,8 +5,8 @@ use Rattle.std.specs.List.{AllByRecursion}
 use Rattle.pb_money.specs.Money.{IsMoney}
 use Rattle.pb_records.specs.Records.{Rec}
 use Rattle.pb_election.specs.declared.keys.Key.TheVariants.{Budget, VoteType}
-use Rattle.pb_election.specs.declared.sections.Role.{Role}
-use Rattle.pb_election.specs.declared.sections.Role.TheVariants.{First, Header, Inside}
+use Rattle.pb_election.specs.declared.sections.RecordRole.{RecordRole}
+use Rattle.pb_election.specs.declared.sections.RecordRole.TheVariants.{First, Header, Inside}
 use Rattle.pb_election.specs.declared.sections.Section.TheVariants.{Meta, Projects, Votes}
 use Rattle.pb_records.specs.Cells.{is_text}
 use Rattle.pb_election.specs.Markers.{marker_of}
@@ -37,7 +37,7 @@ abbrev pub no_part : Part
 no_part = record { marker = []; header = []; rows = [] }
 
 -- what three sections state so far
-abbrev pub so_far_in : Role → Part → Part → Part → SoFar
+abbrev pub so_far_in : RecordRole → Part → Part → Part → SoFar
 so_far_in role a b c =
     record {
       role = role;

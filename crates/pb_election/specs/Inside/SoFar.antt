@@ -10,8 +10,8 @@ use Rattle.pb_election.specs.declared.columns.Columns.{Columns}
 use Rattle.pb_election.specs.declared.keys.Key.{Key}
 use Rattle.pb_election.specs.declared.keys.Key.TheVariants.{Budget, NumProjects, NumVotes, VoteType}
 use Rattle.pb_election.specs.declared.keys.Keys.{Keys}
-use Rattle.pb_election.specs.declared.sections.Role.{Role}
-use Rattle.pb_election.specs.declared.sections.Role.TheVariants.{First, Header, Inside}
+use Rattle.pb_election.specs.declared.sections.RecordRole.{RecordRole}
+use Rattle.pb_election.specs.declared.sections.RecordRole.TheVariants.{First, Header, Inside}
 use Rattle.pb_election.specs.declared.sections.Section.TheVariants.{Meta, Projects, Votes}
 use Rattle.pb_election.specs.declared.refusal.ElectionFault.{ElectionFault}
 use Rattle.pb_records.specs.declared.drafts.Stop.{Stop}
@@ -21,7 +21,7 @@ use Rattle.pb_election.specs.Rows.{ballot_in, columns_of, cost_in, count_in, fun
 use Rattle.pb_election.specs.Faults.{Before, lowest_fault}
 
 pub record SoFar : Type 0 where
-  pub role : Role  -- of the next record
+  pub role : RecordRole  -- of the next record
   pub keys : Keys  -- those that have stood
   pub columns : Columns
   pub vote_column : Option ℕ
@@ -86,7 +86,7 @@ abbrev pub with_ballot : Option ℕ → Rec → Instance → Instance
 with_ballot column r e = record e { ballots = e.ballots ++ (ballot_in column e.ids r ∷ []) }
 
 -- one more record, at which no fault stands
-abbrev pub next_by : Role → SoFar → Rec → SoFar
+abbrev pub next_by : RecordRole → SoFar → Rec → SoFar
 next_by First s r = record s { role = Header Meta }
 next_by (Header Meta) s r = record s { role = Inside Meta }
 next_by (Header Projects) s r =

@@ -46,7 +46,7 @@ fn refusal_and_its_hint_stand_beside_an_answer(rt: HostRuntime) -> Result<(), Fa
         input: InputName::Prices,
         fault: InputFault::Certificate(CertRefusal {
             fault: CertFault::UnknownVoter,
-            place: 5,
+            record_number: 5,
         }),
     };
     let object = beside_json(alloc, &none, Some(refusal), Some(6), &sentences)?;

@@ -58,11 +58,11 @@ fn outcome_is_told(rt: HostRuntime) -> Result<(), Fail> {
 fn refusals_are_told(rt: HostRuntime) -> Result<(), Fail> {
     let election = InputFault::Election(Refusal {
         fault: ElectionFault::NoOutcome,
-        place: 0,
+        record_number: 0,
     });
     let certificate = InputFault::Certificate(CertRefusal {
         fault: CertFault::BadHead,
-        place: 1,
+        record_number: 1,
     });
     for (input, fault, name, text) in [
         (

@@ -7,7 +7,9 @@ ghost use Rattle.pb_json.specs.Prices.{FindingsNameProjects};
 use super::common::{expect_text, hostile_election};
 use pb_election::{Election, Outcome};
 use pb_json::prices_json;
-use pb_price::{Comparison, Failure, Finding, Findings, Mode, PaymentFinding, Verdict};
+use pb_price::{
+    Comparison, Failure, Finding, Findings, Mode, NearestGroup, PaymentFinding, Verdict,
+};
 use serde_json::Value;
 use std::alloc::Global;
 use std::test::Fail;
@@ -98,7 +100,8 @@ const OBJECT: &str = "{\"answer\":\"no\",\"budgets\":\"24000000\",\"conditions\"
     {\"amount\":\"18000000\",\"bound\":\"18000000\",\"project\":@unfunded,\"voter\":null}}],\
     \"election\":@election,\"failed\":{\"name\":\"C1\",\"project\":@funded,\"voter\":3},\"grains_per_unit\":2000000,\
     \"groups\":null,\"kind\":\"prices\",\"limit\":\"20000000\",\
-    \"mode\":{\"cover\":false,\"exhaustive\":true,\"stable\":false},\"outcome\":@outcome,\"total\":\"12000000\",\
+    \"mode\":{\"cover\":false,\"exhaustive\":true,\"stable\":false},\"nearest\":null,\"outcome\":@outcome,\
+    \"total\":\"12000000\",\
     \"version\":1,\"voter_budget\":\"8000000\"}";
 
 /// The object on an election of two projects, after a no.
@@ -107,7 +110,7 @@ fn failed_object(alloc: Global, election: &Election, outcome: &Outcome) -> Resul
     requires outcome { OutcomeFits outcome.now election.now }
 {
     let verdict = Verdict::Failed(Failure::C1(3, 1));
-    Ok(prices_json(alloc, Mode::PLAIN, election, outcome, verdict, &FOUND)?)
+    Ok(prices_json(alloc, Mode::PLAIN, election, outcome, verdict, &FOUND, None)?)
 }
 
 #[test]
@@ -161,9 +164,54 @@ fn yes_says_what_of_groups(rt: HostRuntime) -> Result<(), Fail> {
             &outcome,
             Verdict::Supported,
             &findings,
+            None,
         )?;
         let text = object.to_string(rt.alloc())?;
         assert!(rt; text.as_str().contains(want), "{text}");
     }
     Ok(())
+}
+
+/// The limit is 10, and there are three voters.
+#[test]
+fn group_that_comes_nearest_is_told(rt: HostRuntime) -> Result<(), Fail> {
+    let election = hostile_election(rt.alloc())?;
+    let outcome = Outcome::selected(rt.alloc(), &election)?;
+    assert_eq!(rt; election.projects(), 2);
+    let nearest = NearestGroup {
+        project: 2,
+        supporters: 2,
+        funded_for: 6_000_000,
+    };
+    let object = nearest_object(rt.alloc(), &election, &outcome, nearest)?;
+    let text = object.to_string(rt.alloc())?;
+    let want =
+        "\"nearest\":{\"cost\":\"9000000\",\"funded_for\":\"6000000\",\"number\":2,\"project\":\"{}\u{202e}$(c)`\u{1f5f3}\",\
+        \"share\":{\"denominator\":3,\"numerator\":\"20000000\"},\"supporters\":2}";
+    assert!(rt; text.as_str().contains(want), "{text}");
+    Ok(())
+}
+
+/// The object on a yes for an election of two projects, with this group.
+fn nearest_object(
+    alloc: Global,
+    election: &Election,
+    outcome: &Outcome,
+    nearest: NearestGroup,
+) -> Result<Value, Fail>
+    requires election { projects election.now ≡ 2 }
+    requires nearest { nearest.project ≡ 2 }
+    requires outcome { OutcomeFits outcome.now election.now }
+{
+    let findings = supported(24_000_000);
+    let yes = Verdict::Supported;
+    Ok(prices_json(
+        alloc,
+        Mode::PLAIN,
+        election,
+        outcome,
+        yes,
+        &findings,
+        Some(nearest),
+    )?)
 }

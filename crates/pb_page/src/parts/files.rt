@@ -4,7 +4,7 @@ ghost use Rattle.pb_page.specs.Sums.{HasInOrder};
 ghost use Rattle.pb_page.specs.Taken as spec;
 ghost use Rattle.pb_page.specs.Taken.{sums_shown};
 
-use pb_case::{Case, Files, Fillings, InputFile, push_label};
+use pb_case::{Case, Fillings, InputFile, PageFiles, push_label};
 use pb_certificate::Measure;
 use pb_figures::CertificateFigures;
 use pb_markup::{Page, Tag};
@@ -99,7 +99,7 @@ fn checks(case: &Case<'_>) -> Page {
 }
 
 // Whether the files can be named in a command that gives the same answer. Their names stand there whole or not at all.
-fn fits_a_command(files: &Files) -> bool {
+fn fits_a_command(files: &PageFiles) -> bool {
     is_word(&files.election)
         && is_other_word(&files.outcome, &files.election)
         && is_other_word(&files.certificate, &files.election)

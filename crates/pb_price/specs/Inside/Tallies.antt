@@ -13,7 +13,10 @@ use Rattle.pb_cohesion.specs.Amounts.{beta, largest_by, left, paid, spent}
 use Rattle.pb_cohesion.specs.Conditions.{culprits_of_C1, culprits_of_C2, most_of, sum_ℤ}
 use Rattle.pb_price.specs.Findings.{finding, payment_finding}
 use Rattle.pb_price.specs.Inside.Noted.{IsFindingTo}
+use Rattle.pb_price.specs.declared.PaymentFinding.{PaymentFinding}
 use Rattle.pb_price.specs.declared.ProjectMargins.{ProjectMargins}
+use Rattle.pb_price.specs.declared.at_hand.AtHand.{AtHand}
+use Rattle.pb_price.specs.declared.open_tally.OpenTally.{OpenTally}
 use Rattle.pb_price.specs.declared.tally.ProjectSums.{ProjectSums}
 use Rattle.pb_price.specs.declared.tally.Tally.{Tally}
 
@@ -65,6 +68,10 @@ pub record Taken : Type 0 where
   pub pays : ℕ → ℕ → ℕ
   pub rows : ℕ
 
+-- no payment so far, for voters with so many grains each
+abbrev pub no_payment : ℕ → Taken
+no_payment budget = record { budget = budget; pays = λ i c. 0; rows = 0 }
+
 -- the sums of the projects: what is paid by all voters, what those supporters have left and can offer that are closed,
 -- and how many these are, and the last voter seen to approve the project
 pub record AreSumsOf (e : Instance) (a : Taken) (closed opened : ℕ) (sums : List ProjectSums) : Type 0 where
@@ -101,20 +108,32 @@ pub record AreSteps (e : Instance) (rows closed opened steps : ℕ) : Type 0 whe
   pub high : steps ≤ rows + 2 * approvals (take closed e.ballots) + closed + length (ballot_of e (closed + 1))
   pub unopened : opened ≤ closed → steps ≤ rows + 2 * approvals (take closed e.ballots) + closed
 
--- the tally is that of what was taken
-pub record Tallied (e : Instance) (a : Taken) (t : Tally) : Type 0 where
+-- the payments for projects that their voters do not approve: the first, and how many
+pub record FindsUnapproved (e : Instance) (a : Taken) (f : PaymentFinding) : Type 0 where
+  pub first : IsFirstPair e (pays_wrongly e a.pays) f.first
+  pub count : f.count ≡ wrong_count e a.pays
+  pub few : f.count ≤ a.rows
+
+-- the sums are those of what was taken, where `opened` is the last voter whose ballot was gone through for its rows
+pub record AreTallied (e : Instance) (a : Taken) (opened : ℕ) (t : Tally) : Type 0 where
   pub sound : IsElection e
   pub budget : t.budget ≡ a.budget
-  pub taken : AreTaken e a t.closed t.opened
-  pub sums : AreSumsOf e a t.closed t.opened t.projects.items
-  pub spent : t.spent ≡ spent_by e a.pays (t.closed + 1)
-  pub largest : t.largest ≡ top_by e a.pays (t.closed + 1)
-  pub unapproved : IsFirstPair e (pays_wrongly e a.pays) t.unapproved.first
-  pub count_unapproved : t.unapproved.count ≡ wrong_count e a.pays
-  pub few_unapproved : t.unapproved.count ≤ a.rows
+  pub taken : AreTaken e a t.closed opened
+  pub sums : AreSumsOf e a t.closed opened t.projects.items
+  pub unapproved : FindsUnapproved e a t.unapproved
   pub over_budget : IsFindingTo t.closed (λ i. nat_lt a.budget (spent_by e a.pays i)) (λ i. true) (λ i. a.budget)
       (λ i. pos (spent_by e a.pays i)) t.over_budget
-  pub steps : AreSteps e a.rows t.closed t.opened t.steps
+  pub steps : AreSteps e a.rows t.closed opened t.steps
+
+-- what voter i pays by what was taken: for all projects together, and the most for one
+pub record IsAtHand (e : Instance) (a : Taken) (i : ℕ) (h : AtHand) : Type 0 where
+  pub spent : h.spent ≡ spent_by e a.pays i
+  pub largest : h.largest ≡ top_by e a.pays i
+
+-- the tally is that of what was taken, and the voter behind the closed ones is at hand
+pub record Tallied (e : Instance) (a : Taken) (t : OpenTally) : Type 0 where
+  pub tally : AreTallied e a t.at_hand.opened t.tally
+  pub at_hand : IsAtHand e a (t.tally.closed + 1) t.at_hand
 
 -- one more row: the payment of a pair that had none
 pub record TakesRow (a b : Taken) (q : PriceRow) : Type 0 where
@@ -126,14 +145,24 @@ pub record TakesRow (a b : Taken) (q : PriceRow) : Type 0 where
   pub projects : (i c : ℕ) → (c ≡ q.project → ⊥) → b.pays i c ≡ a.pays i c
 
 -- a row can be taken
-pub record CanTakeRow (e : Instance) (t : Tally) (q : PriceRow) : Type 0 where
+pub record CanTakeRow (e : Instance) (t : OpenTally) (q : PriceRow) : Type 0 where
   pub taken : Taken
   pub tallied : Tallied e taken t
   pub voter : IsVoter e q.voter
   pub project : IsProject e q.project
   pub small : q.payment ≤ most_numerator
-  pub follows : t.closed < q.voter
+  pub follows : t.tally.closed < q.voter
   pub none_yet : taken.pays q.voter q.project ≡ 0
+  pub few : taken.rows ≤ 10 ^ 12
+
+-- a row of the voter behind the closed ones can be added, once its ballot was gone through
+pub record CanAddRow (e : Instance) (t : Tally) (q : PriceRow) : Type 0 where
+  pub taken : Taken
+  pub tallied : AreTallied e taken q.voter t
+  pub voter : IsVoter e q.voter
+  pub project : IsProject e q.project
+  pub small : q.payment ≤ most_numerator
+  pub follows : t.closed + 1 ≡ q.voter
   pub few : taken.rows ≤ 10 ^ 12
 
 -- each project of a ballot was changed in one way

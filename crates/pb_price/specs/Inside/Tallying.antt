@@ -12,17 +12,17 @@ use Rattle.pb_cohesion.specs.Amounts.{beta}
 use Rattle.pb_price.specs.Inside.Tallies.{AreInRange, IsTallyOf, Taken, Tallied, most_grains, sums_of}
 use Rattle.pb_price.specs.Answers.{AreStepsOf, row_count}
 use Rattle.pb_price.specs.declared.tallying.CertificateTally.{CertificateTally}
-use Rattle.pb_price.specs.declared.tally.Tally.{Tally}
+use Rattle.pb_price.specs.declared.open_tally.OpenTally.{OpenTally}
 
 -- what the rows behind state
 abbrev pub taken_from : Rows → Taken
 taken_from s = record { budget = payment_grains s.budget; pays = stated (given s); rows = length (given s) }
 
 -- all rows of a certificate were taken
-pub record TakesCertificate (s : Rows) (t : Tally) : Type 0 where
+pub record TakesCertificate (s : Rows) (t : OpenTally) : Type 0 where
   pub end : Rows
-  pub same : end ≡ record s { place = end.place }
-  pub no_row_left : nonblank (drop end.place s.records) ≡ []
+  pub same : end ≡ record s { record_number = end.record_number }
+  pub no_row_left : nonblank (drop end.record_number s.records) ≡ []
   pub states : IsPriceText s.records s.election (prices_given end)
   pub tallied : Tallied s.election (taken_from end) t
   pub few : length (given end) ≤ most_rows
@@ -47,10 +47,10 @@ pays_until p i k a b = if a == i then numerator_in (take k (payments_of p i)) b
     else (if nat_lt 0 a && nat_lt a i then payment p a b else 0)
 
 -- those payments were taken
-pub record TakesUntil (e : Instance) (p : Prices) (i k : ℕ) (t : Tally) : Type 0 where
+pub record TakesUntil (e : Instance) (p : Prices) (i k : ℕ) (t : OpenTally) : Type 0 where
   pub taken : Taken
   pub tallied : Tallied e taken t
   pub budget_is : taken.budget ≡ beta p
   pub pays_is : (a b : ℕ) → taken.pays a b ≡ pays_until p i k a b
   pub few : taken.rows ≤ most_projects * (i - 1) + k
-  pub follows : t.closed < i
+  pub follows : t.tally.closed < i

@@ -29,5 +29,5 @@ TellsNotText form told = (before : List Rec) (r : Rec) → is_text r ≡ false �
 
 -- the records have their first fault where it was told; out of memory says nothing of them
 abbrev pub StopsFirst : {F : Type 0} → Form F → List Rec → Stop (FaultAt F) → Type 0
-StopsFirst form recs (Fault f) = IsFirstFault form recs f.place f.fault
+StopsFirst form recs (Fault f) = IsFirstFault form recs f.record_number f.fault
 StopsFirst form recs Memory = ⊤

@@ -9,7 +9,7 @@ use Rattle.pb_records.specs.declared.records.Next.TheVariants.{End, NotText, Rec
 
 -- how many records lie behind, the record that was given last, and the records that are still to come
 pub record Position : Type 0 where
-  pub place : ℕ
+  pub record_number : ℕ
   pub row : Rec
   pub left : List Rec
 
@@ -18,7 +18,7 @@ pub record MeetsRecord (old new : Position) : Type 0 where
   pub blanks : List Rec
   pub are_blank : nonblank blanks ≡ []
   pub cut : old.left ≡ blanks ++ (new.row ∷ new.left)
-  pub at : new.place ≡ old.place + length blanks + 1
+  pub at : new.record_number ≡ old.record_number + length blanks + 1
   pub is_full : is_blank new.row ≡ false
   pub is_utf8 : is_text new.row ≡ true
 
@@ -29,14 +29,14 @@ pub record MeetsNotText (old new : Position) : Type 0 where
   pub rest : List Rec
   pub are_blank : nonblank blanks ≡ []
   pub cut : old.left ≡ blanks ++ (bad ∷ rest)
-  pub at : new.place ≡ old.place + length blanks + 1
+  pub at : new.record_number ≡ old.record_number + length blanks + 1
   pub is_not_utf8 : is_text bad ≡ false
   pub none_left : new.left ≡ []
 
 -- blank records alone, and then the end
 pub record MeetsEnd (old new : Position) : Type 0 where
   pub are_blank : nonblank old.left ≡ []
-  pub at : new.place ≡ old.place + length old.left
+  pub at : new.record_number ≡ old.record_number + length old.left
   pub none_left : new.left ≡ []
 
 abbrev pub Meets : Next → Position → Position → Type 0

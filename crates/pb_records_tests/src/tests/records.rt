@@ -50,11 +50,11 @@ fn expect_next(
     rt: &impl Abort,
     cursor: &mut Cursor<'_>,
     want: Next,
-    place: u64,
+    record_number: u64,
     fields: &[&str],
 ) -> Result<(), Fail> {
     assert!(rt; cursor.advance()? == want);
-    assert!(rt; cursor.place() == place);
+    assert!(rt; cursor.record_number() == record_number);
     for (number, field) in fields.iter().enumerate() {
         assert!(rt; cursor.row().get(number) == Some(*field), "{field}");
     }
@@ -63,7 +63,7 @@ fn expect_next(
 
 /// The first record and the third are to come, with two fields each, and then the end.
 fn expect_two_records(rt: &impl Abort, cursor: &mut Cursor<'_>) -> Result<(), Fail> {
-    assert!(rt; cursor.place() == 0);
+    assert!(rt; cursor.record_number() == 0);
     expect_next(rt, cursor, Next::Record, 1, &["a", "1"])?;
     assert!(rt; cursor.row().get(2) == None);
     expect_next(rt, cursor, Next::Record, 3, &["b\nc", "\"2\""])?;

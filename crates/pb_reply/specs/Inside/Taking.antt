@@ -15,31 +15,31 @@ use Rattle.pb_input.specs.Faults.{wants_memory}
 use Rattle.pb_input.specs.declared.InputFault.{InputFault}
 use Rattle.pb_input.specs.declared.InputFault.TheVariants as fault
 use Rattle.pb_input.specs.declared.InputName.{InputName}
-use Rattle.pb_reply.specs.declared.stop.Stop.{Stop}
-use Rattle.pb_reply.specs.declared.stop.Stop.TheVariants as stop
+use Rattle.pb_reply.specs.declared.unanswered.Unanswered.{Unanswered}
+use Rattle.pb_reply.specs.declared.unanswered.Unanswered.TheVariants as unanswered
 
 -- what an input that was taken states, memory aside
-abbrev pub IfTaken : {A : Type 0} → Result A Stop → (Stated A → Type 0) → Type 0
+abbrev pub IfTaken : {A : Type 0} → Result A Unanswered → (Stated A → Type 0) → Type 0
 IfTaken (Ok a) is_stated = is_stated (Ok a)
-IfTaken (Err (stop.Refused r)) is_stated = is_stated (Err r)
-IfTaken (Err stop.Memory) is_stated = Unit {0}
+IfTaken (Err (unanswered.Refused r)) is_stated = is_stated (Err r)
+IfTaken (Err unanswered.Memory) is_stated = Unit {0}
 
 -- an input of this name was not delivered whole, and the work on it stops so
-abbrev pub IsUnloaded : InputName → Delivery → Stop → Type 0
+abbrev pub IsUnloaded : InputName → Delivery → Unanswered → Type 0
 IsUnloaded input (delivery.Bytes bytes) why = ⊥
-IsUnloaded input delivery.Read why = why ≡ stop.Refused (refusal_of input fault.Unread)
-IsUnloaded input delivery.TooLong why = why ≡ stop.Refused (refusal_of input fault.TooLong)
+IsUnloaded input delivery.Read why = why ≡ unanswered.Refused (refusal_of input fault.Unread)
+IsUnloaded input delivery.TooLong why = why ≡ unanswered.Refused (refusal_of input fault.TooLong)
 
 -- what the work on an input stops for
-abbrev pub stop_at : InputName → InputFault → Stop
-stop_at input why = if wants_memory why then stop.Memory else stop.Refused (refusal_of input why)
+abbrev pub unanswered_at : InputName → InputFault → Unanswered
+unanswered_at input why = if wants_memory why then unanswered.Memory else unanswered.Refused (refusal_of input why)
 
 -- an outcome that was taken as its marks, and a claim as its measure, its group and its demand
-abbrev pub as_marks : Result Funding Stop → Result (List Bool) Stop
+abbrev pub as_marks : Result Funding Unanswered → Result (List Bool) Unanswered
 as_marks (Ok w) = Ok w.marks
 as_marks (Err why) = Err why
 
-abbrev pub claimed : Result Claim Stop → Result (Measure × List ℕ × List ℕ) Stop
+abbrev pub claimed : Result Claim Unanswered → Result (Measure × List ℕ × List ℕ) Unanswered
 claimed (Ok v) = Ok (v.measure, v.group, v.demand)
 claimed (Err why) = Err why
 
@@ -61,12 +61,12 @@ pub record GivesOutcome (e : Instance) (t : FileTurn) (stated : Stated (List Boo
   pub delivered : t (Some delivery)
   pub audits : AuditsOutcome e delivery stated
 
--- the reply on what the work stopped for; there is none where memory was wanted
-abbrev pub stopped : Stop → Option Reply
-stopped (stop.Refused r) = Some (refused r)
-stopped stop.Memory = None
+-- the reply that tells why; there is none where memory was wanted
+abbrev pub reply_why : Unanswered → Option Reply
+reply_why (unanswered.Refused r) = Some (refused r)
+reply_why unanswered.Memory = None
 
--- what some work came to: its own, or what is told of the reply on what it stopped for
-abbrev pub settled : {T : Type 0} → (Reply → T) → Result T Stop → Option T
-settled told (Ok own) = Some own
-settled told (Err why) = option_map told (stopped why)
+-- what some work came to: its own, or what is told of the reply that tells why it has none
+abbrev pub or_refusal : {T : Type 0} → (Reply → T) → Result T Unanswered → Option T
+or_refusal told (Ok own) = Some own
+or_refusal told (Err why) = option_map told (reply_why why)

@@ -10,11 +10,17 @@ pub fn refused(input: InputName, fault: InputFault) -> Status {
 }
 
 /// An election's fault at a record.
-pub fn in_election(fault: ElectionFault, place: u64) -> InputFault {
-    InputFault::Election(ElectionRefusal { fault, place })
+pub fn in_election(fault: ElectionFault, record_number: u64) -> InputFault {
+    InputFault::Election(ElectionRefusal {
+        fault,
+        record_number,
+    })
 }
 
 /// A fault of another file at a record.
-pub fn in_certificate(fault: CertFault, place: u64) -> InputFault {
-    InputFault::Certificate(CertRefusal { fault, place })
+pub fn in_certificate(fault: CertFault, record_number: u64) -> InputFault {
+    InputFault::Certificate(CertRefusal {
+        fault,
+        record_number,
+    })
 }

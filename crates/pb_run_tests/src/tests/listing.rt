@@ -2,8 +2,9 @@
 use super::fakes::FakeWriter;
 use super::room::Room;
 use pb_audit::FolderStatus;
+use pb_election::Output;
 use pb_price::Mode;
-use pb_run::{Files, ListFault, Listing, Machine, Progress, report};
+use pb_run::{Files, ListFault, Listing, Machine, write_report};
 use pb_samples::files::{ELECTION, PRICES};
 use std::alloc::Global;
 use std::cell::Cell;
@@ -17,19 +18,20 @@ fn reported(
     files: &mut Machine<'_>,
     folder: &str,
     listing: &Listing,
+    json: bool,
 ) -> Result<(String, FolderStatus), Fail> {
-    let mut err = FakeWriter::new(alloc);
-    let mut progress = Progress::new(&mut err, 2);
-    let report = report(
+    let (mut written, mut err) = (Vec::new(alloc), FakeWriter::new(alloc));
+    let status = write_report(
         alloc,
         files,
         folder,
         listing,
         Mode::PLAIN,
-        false,
-        &mut progress,
+        json,
+        &mut Output::new(&mut written),
+        &mut err,
     )?;
-    Ok((String::from_utf8(report.text)?, report.status))
+    Ok((String::from_utf8(written)?, status))
 }
 
 #[test]
@@ -48,12 +50,20 @@ fn files_that_vanish_after_the_listing_are_refused(rt: HostRuntime) -> Result<()
     fs::remove_file(&rt, gone.as_str())?;
     fs::remove_file(&rt, prices.as_str())?;
     room.write("late.pb", ELECTION.as_bytes())?;
-    let (text, status) = reported(rt.alloc(), &mut files, &folder, &listing)?;
+    let (text, status) = reported(rt.alloc(), &mut files, &folder, &listing, false)?;
     let wanted = "gone.pb: refused election 18 Read record 0\n\
         here.pb: read 3 voters 3 projects 2 funded\n\
         here.prices.csv: refused certificate 18 Read record 0\n\
         total 2 elections 0 yes 0 no 2 refused\n";
     assert!(rt; text.as_str() == wanted, "{text}");
+    assert!(rt; status == FolderStatus::SomeRefused);
+    let (text, status) = reported(rt.alloc(), &mut files, &folder, &listing, true)?;
+    let total =
+        "{\"elections\":2,\"kind\":\"total\",\"no\":0,\"refused\":2,\"version\":1,\"yes\":0}";
+    assert!(rt;
+        text.lines().count() == 3 && text.lines().last() == Some(total),
+        "{text}"
+    );
     assert!(rt; status == FolderStatus::SomeRefused);
     Ok(())
 }

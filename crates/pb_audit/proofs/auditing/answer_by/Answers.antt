@@ -1,7 +1,7 @@
 use Rattle.std.proofs.lemmas.Result.{IfOk-weaker}
 use Rattle.pb_reply.specs.Turns.{file_turn, turn}
 use Rattle.pb_audit.specs.InTurn.{ReadsAudit}
-use Rattle.pb_audit.proofs.Audits.{settled_told}
+use Rattle.pb_audit.proofs.Audits.{or_refusal_told}
 use Rattle.pb_audit.proofs.auditing.answer_by.Goals as goal
 
 pub returns : goal.returns
@@ -10,6 +10,6 @@ returns g c =
     (turn g.E.Given.delivers c.args.election.now c.audit_in_turn-work.new.election)
     (file_turn g.O.Given.delivers c.args.outcome.now c.audit_in_turn-work.new.outcome)
     (turn g.C.Given.delivers c.args.certificate.now c.audit_in_turn-work.new.certificate) in
-    let told = settled_told g.A.Told.Telling.told is_reply _ _ c.in_ok-told.ensures c.audit_in_turn-work.ensures in
+    let told = or_refusal_told g.A.Told.FromReply.told is_reply _ _ c.in_ok-told.ensures c.audit_in_turn-work.ensures in
     IfOk-weaker c.into_answer.result _ _ (λ answer is. record { reply = told.0; of_inputs = told.1.0; out = is })
     (c.into_answer.ensures told.0 told.1.1)

@@ -34,10 +34,10 @@ returns g c =
     c.reply_on-told.ensures.promised _ _ _ _ _ _ _
     c.in_ok-election.ensures c.in_ok-outcome.ensures.taken c.in_ok-certificate.ensures
     (subst
-    (λ (d : Delivery). IfTold g.A.Told.Telling.told
+    (λ (d : Delivery). IfTold g.A.Told.FromReply.told
     (AnswersCertificate (g.A.Audit.rules c.args.audit.now).states (g.A.Audit.rules c.args.audit.now).reply
     c.in_ok-election.election
-    c.in_ok-outcome.outcome.marks d) c.reply_on-told.result) c.lend.ensures c.reply_on-told.ensures.reply)
+    c.in_ok-outcome.outcome.marks d) c.reply_on-told.result) c.as_file.ensures c.reply_on-told.ensures.reply)
 
 pub returns-in_err-push_notes_on : goal.returns-in_err-push_notes_on
 returns-in_err-push_notes_on g c = rw (memory_told _ _ c.from_residual-in_err-push_notes_on.ensures) tt

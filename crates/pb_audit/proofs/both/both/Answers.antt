@@ -6,8 +6,8 @@ use Rattle.pb_reply.specs.Turns.{file_turn, turn}
 use Rattle.pb_audit.specs.Both.{ReadsBoth}
 use Rattle.pb_audit.proofs.both.both.Goals as goal
 
-pub returns : goal.returns
-returns g c =
+pub returns-clause-told : goal.returns-clause-told
+returns-clause-told g c =
     let is_reply = ReadsBoth c.args.mode
     (turn g.E.Given.delivers c.args.election.now c.both_in_turn-work.new.election)
     (file_turn g.O.Given.delivers c.args.outcome.now c.both_in_turn-work.new.outcome)
@@ -15,4 +15,4 @@ returns g c =
     (turn g.V.Given.delivers c.args.violation.now c.both_in_turn-work.new.violation) in
     let of = subst (λ (o : Option Reply). IfSome o is_reply) c.in_ok-reply.ensures c.both_in_turn-work.ensures in
     IfOk-weaker c.answer_as.result _ _ (λ answer is. record { reply = c.in_ok-reply.reply; of_inputs = of; out = is })
-    c.answer_as.ensures
+    c.answer_as.ensures.text

@@ -5,7 +5,7 @@ use Rattle.pb_audit.specs.Both.{beside}
 use Rattle.pb_reply.specs.Inputs.{StatesViolation}
 use Rattle.pb_reply.specs.Turns.{file_turn, turn}
 use Rattle.pb_audit.specs.Inside.Certificates.{AnswersCertificate}
-use Rattle.pb_reply.specs.Inside.Taking.{settled}
+use Rattle.pb_reply.specs.Inside.Taking.{or_refusal}
 use Rattle.pb_input.specs.declared.InputName.TheVariants.{Violation}
 use Rattle.pb_audit.proofs.Audits.{memory_told}
 use Rattle.pb_audit.proofs.Boths.{both_ended_at_election, both_ended_at_outcome, both_ended_at_prices, both_settled}
@@ -54,10 +54,10 @@ returns g c =
     both_settled c.args.mode _ _ _ _ _ _ c.in_ok-findings.findings _ _
     c.in_ok-election.ensures c.in_ok-outcome.ensures.taken c.in_ok-findings.ensures.taken c.in_ok-violation.ensures
     (subst
-    (λ (d : Delivery). IfSome (settled (λ r. r) c.beside-reply.result)
+    (λ (d : Delivery). IfSome (or_refusal (λ r. r) c.beside-reply.result)
     (AnswersCertificate (StatesViolation Violation) (beside c.args.mode c.in_ok-findings.findings)
     c.in_ok-election.election c.in_ok-outcome.outcome.marks d))
-    c.lend.ensures c.beside-reply.ensures)
+    c.as_file.ensures c.beside-reply.ensures)
 
 pub returns-in_err-push_where_told : goal.returns-in_err-push_where_told
 returns-in_err-push_where_told g c = rw (memory_told _ _ c.from_residual-in_err-push_where_told.ensures) tt

@@ -30,7 +30,7 @@ returns g c =
           figured = record { figures = figures; promised = c.reply_on.ensures.promised e w xs figures };
           out = refl;
         },
-        is ∙ ap (λ (ys : List GroupFigures). g.A.Told.Telling.told (rules.reply e w ys)) c.deref.ensures.value,
+        is ∙ ap (λ (ys : List GroupFigures). g.A.Told.FromReply.told (rules.reply e w ys)) c.deref.ensures.value,
       ),
     ))
     c.reply_on.ensures.reply

@@ -20,5 +20,5 @@ returns-in_err-election g c =
 pub returns : goal.returns
 returns g c =
     tidy_answered _ _ _ _ _ c.in_ok-election.ensures c.in_ok-certificate.ensures
-    (subst (λ (d : Delivery). IfTaken c.tidied.result (TidiesPrices c.in_ok-election.election d)) c.lend.ensures
+    (subst (λ (d : Delivery). IfTaken c.tidied.result (TidiesPrices c.in_ok-election.election d)) c.as_file.ensures
     c.tidied.ensures)

@@ -11,4 +11,4 @@ returns c =
     (given-file-gives _ _ _ c.file_given-outcome.ensures)
     (file-gives _ _ _ c.in_memory-certificate.ensures)
     (file-gives _ _ _ c.in_memory-violation.ensures))
-    c.answer.ensures
+    c.answer.ensures.answers

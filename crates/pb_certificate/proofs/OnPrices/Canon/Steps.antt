@@ -10,7 +10,7 @@ use Rattle.pb_election.specs.Instance.{Instance, voters}
 use Rattle.pb_records.specs.Records.{Rec}
 use Rattle.pb_certificate.specs.Prices.Canon.{Canon, head_records, line, lines, rows_of_voter}
 use Rattle.pb_certificate.specs.Inside.Prices.CanonicalDrafts.{rows_up_to}
-use Rattle.pb_certificate.specs.Inside.Prices.Ledgers.{with_voter}
+use Rattle.pb_certificate.specs.Inside.Prices.PaymentSinks.{with_voter}
 use Rattle.pb_certificate.specs.Prices.{Prices, PricesFit, payments_of}
 
 -- the head alone

@@ -9,7 +9,7 @@ pub returns : goal.returns
 returns c =
     record {
       answered = outcome-answered;
-      apart = λ recs e w place f text. outcome-clear recs e w text place f;
+      apart = λ recs e w record_number f text. outcome-clear recs e w text record_number f;
       alone = outcome-text-same;
       first = λ recs e. one-first (outcome_form e) recs;
     }

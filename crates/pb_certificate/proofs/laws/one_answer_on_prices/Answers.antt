@@ -9,7 +9,7 @@ pub returns : goal.returns
 returns c =
     record {
       answered = price-answered;
-      apart = λ recs e p place f text. price-clear recs e p text place f;
+      apart = λ recs e p record_number f text. price-clear recs e p text record_number f;
       alone = price-text-same;
       first = λ recs e. one-first (price_form e) recs;
     }

@@ -9,7 +9,7 @@ pub returns : goal.returns
 returns c =
     record {
       answered = refutation-answered;
-      apart = λ recs e w place f text. refutation-clear recs e w text place f;
+      apart = λ recs e w record_number f text. refutation-clear recs e w text record_number f;
       alone = refutation-text-same;
       first = λ recs e. one-first (refutation_form e) recs;
     }

@@ -9,7 +9,7 @@ pub returns : goal.returns
 returns c =
     record {
       answered = group-answered;
-      apart = λ recs e m s t place f text. group-clear recs e m s t text place f;
+      apart = λ recs e m s t record_number f text. group-clear recs e m s t text record_number f;
       alone = group-text-same;
       first = λ recs e. one-first (violation_form e) recs;
     }

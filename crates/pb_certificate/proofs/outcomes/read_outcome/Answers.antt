@@ -60,5 +60,5 @@ returns-in-Err-clause-only c = λ marks text. (
     let e = c.args.election.now in
     c.of-in-Err.ensures
     ∙ stop-is-memory (outcome_form e) recs c.in-Err.stop c.in-Err.ensures.stopped
-    (λ f. outcome-clear recs e marks text f.place f.fault)
+    (λ f. outcome-clear recs e marks text f.record_number f.fault)
     )

@@ -31,9 +31,9 @@ prices_up_to s qs n =
       payments = stated_up_to (projects s.election) qs n;
     }
 
--- Here `has` says of an election and of prices that a ledger has these so far.
+-- Here `has` says of an election and of prices that a sink has these so far.
 
--- of the payments that some rows state, the ledger has those of the voters that are done, and the turn those of the
+-- of the payments that some rows state, the sink has those of the voters that are done, and the turn those of the
 -- next
 pub record Holds (has : Instance → Prices → Type 0) (s : Rows) (qs : List Payment) (t : Turn) : Type 0 where
   pub has_done : has s.election (prices_up_to s qs t.done)
@@ -57,12 +57,12 @@ HoldSome has t = (s : Rows) × (qs : List Payment) × Holds has s qs t
 
 -- they are those of all rows of a price certificate
 pub record HoldsAll (has : Instance → Prices → Type 0) (first : Rows) (t : Turn) : Type 0 where
-  pub place : ℕ
-  pub states : IsPriceText first.records first.election (prices_given (record first { place = place }))
-  pub holds : Holds has first (given (record first { place = place })) t
+  pub record_number : ℕ
+  pub states : IsPriceText first.records first.election (prices_given (record first { record_number = record_number }))
+  pub holds : Holds has first (given (record first { record_number = record_number })) t
   pub voters : t.done ≤ voters first.election
 
--- the ledger has the prices that all rows of a price certificate state
+-- the sink has the prices that all rows of a price certificate state
 pub record GathersAll (has : Instance → Prices → Type 0) (first : Rows) : Type 0 where
   pub prices : Prices
   pub states : IsPriceText first.records first.election prices

@@ -40,4 +40,4 @@ HeadGives h next old new (Err r) = RefusedInHead old h r
 abbrev pub ReadsHead : Instance → List Rec → Position → Result PriceHead CertRefusal → Type 0
 ReadsHead e recs new (Ok h) = (heads : List Rec) × StandsInHead e recs new heads (Row h.denominator h.budget)
 ReadsHead e recs new (Err r) = (r ≡ no_memory)
-    ⊎ (IsFirstFault (price_form e) recs r.place r.fault × (length (nonblank (take (r.place - 1) recs)) < 4))
+    ⊎ (IsFirstFault (price_form e) recs r.record_number r.fault × (length (nonblank (take (r.record_number - 1) recs)) < 4))

@@ -12,19 +12,19 @@ use Rattle.pb_certificate.specs.declared.refusal.CertRefusal.{CertRefusal}
 
 -- a cursor stands over these records behind just these that are not blank, and no fault stands at a place behind
 pub record StandsBehind (form : Form CertFault) (recs : List Rec) (c : Position) (before : List Rec) : Type 0 where
-  pub within : c.place ≤ length recs
-  pub left : c.left ≡ drop c.place recs
-  pub behind : nonblank (take c.place recs) ≡ before
+  pub within : c.record_number ≤ length recs
+  pub left : c.left ≡ drop c.record_number recs
+  pub behind : nonblank (take c.record_number recs) ≡ before
   pub text : AllByRecursion (λ r. IsTrue (is_text r)) before
-  pub clear : (k : ℕ) → k ≤ c.place → fault_at form recs k ≡ None
+  pub clear : (k : ℕ) → k ≤ c.record_number → fault_at form recs k ≡ None
 
 -- the file is refused behind just these records that are not blank
 pub record RefusedBehind (form : Form CertFault) (recs before : List Rec) (r : CertRefusal) : Type 0 where
-  pub first : IsFirstFault form recs r.place r.fault
-  pub behind : nonblank (take (r.place - 1) recs) ≡ before
+  pub first : IsFirstFault form recs r.record_number r.fault
+  pub behind : nonblank (take (r.record_number - 1) recs) ≡ before
 
 -- whether a record comes next
 abbrev pub Comes : Position → Position → Result Bool CertRefusal → Type 0
 Comes old new (Ok true) = MeetsRecord old new
 Comes old new (Ok false) = MeetsEnd old new
-Comes old new (Err r) = (r ≡ no_memory) ⊎ ((r.fault ≡ fault.NotUtf8) × (r.place ≡ new.place) × MeetsNotText old new)
+Comes old new (Err r) = (r ≡ no_memory) ⊎ ((r.fault ≡ fault.NotUtf8) × (r.record_number ≡ new.record_number) × MeetsNotText old new)

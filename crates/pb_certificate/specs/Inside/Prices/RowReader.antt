@@ -23,7 +23,7 @@ place_of r =
       records = certificate_records r.bytes.now;
       denominator = r.denominator;
       budget = r.budget;
-      place = r.cursor.place;
+      record_number = r.cursor.record_number;
     }
 
 -- the head and some rows lie behind, no fault stands there, and the reader remembers what the rows state

@@ -1,7 +1,7 @@
 //! A canonical text, as far as it has been written.
 
 use crate::prices::canonical::rows::{add_heads, add_payments};
-use crate::prices::ledger::Ledger;
+use crate::prices::payment_sink::PaymentSink;
 use csv::Writer;
 use pb_election::Election;
 use pb_records::record_writer;
@@ -49,7 +49,7 @@ impl<'a> CanonicalDraft<'a> {
     }
 }
 
-impl<'a> Ledger for CanonicalDraft<'a> {
+impl<'a> PaymentSink for CanonicalDraft<'a> {
     ghost use Rattle.pb_certificate.specs.Inside.Prices.CanonicalDrafts.{HasWritten};
 
     ghost Has = { HasWritten };

@@ -72,7 +72,7 @@ fn repeated_id_that_collides_is_refused_where_it_stands(rt: HostRuntime) -> Resu
         let text = election_repeating(rt.alloc(), repeated)?;
         let want = Refusal {
             fault: ElectionFault::RepeatedProject,
-            place: 65,
+            record_number: 65,
         };
         assert_eq!(rt; why(rt.alloc(), text.as_str())?, Some(want));
     }
@@ -85,7 +85,7 @@ fn vote_for_no_id_is_refused_where_it_stands(rt: HostRuntime) -> Result<(), Fail
     let text = election_of(rt.alloc(), &COLLIDING, NO_ID)?;
     let want = Refusal {
         fault: ElectionFault::UnknownProject,
-        place: 69,
+        record_number: 69,
     };
     assert_eq!(rt; why(rt.alloc(), &text)?, Some(want));
     Ok(())

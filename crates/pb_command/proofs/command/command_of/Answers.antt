@@ -1,5 +1,5 @@
 use Rattle.std.proofs.Common.{arith}
-use Rattle.pb_command.proofs.Building.{adds_rule, gone_through, same_command, takes_next}
+use Rattle.pb_command.proofs.Clap.Building.{adds_rule, gone_through, same_command, takes_next}
 use Rattle.pb_command.proofs.command.command_of.Goals as goal
 
 pub loop-parameter-init : goal.loop-parameter-init

@@ -1,6 +1,6 @@
 use Rattle.std.proofs.Common.{refl}
 use Rattle.pb_command.specs.Commands.{folder_app, pbaudit, tidy_app}
-use Rattle.pb_command.proofs.Building.{same_command}
+use Rattle.pb_command.proofs.Clap.Building.{same_command}
 use Rattle.pb_command.proofs.command.pbaudit_command.Goals as goal
 
 pub returns : goal.returns

@@ -1,4 +1,4 @@
-use Rattle.pb_command.proofs.Building.{adds_command, gone_through, takes_next}
+use Rattle.pb_command.proofs.Clap.Building.{adds_command, gone_through, takes_next}
 use Rattle.pb_command.specs.Descriptions.{with_described}
 use Rattle.pb_command.proofs.command.with_commands.Goals as goal
 

@@ -1,7 +1,7 @@
 use Rattle.std.proofs.Common.{◌∙◌}
 use Rattle.clap.specs.Words.{found_of, one_of, rows_of}
 use Rattle.clap.proofs.WalkLemmas.{one_text-rows}
-use Rattle.pb_command.proofs.Reading.{switch_read}
+use Rattle.pb_command.proofs.Clap.Matches.{switch_read}
 use Rattle.pb_command.proofs.task.is_given.Goals as goal
 
 pub returns : goal.returns

@@ -1,5 +1,5 @@
 use Rattle.std.proofs.Common.{arith}
-use Rattle.pb_records.proofs.CellLemmas.{field-some}
+use Rattle.pb_records.proofs.Csv.{field-some}
 use Rattle.pb_election.proofs.ColumnLemmas.{column-behind, column-here, column-none}
 use Rattle.pb_election.proofs.columns.column_from.Goals as goal
 

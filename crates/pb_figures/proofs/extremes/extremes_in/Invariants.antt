@@ -5,4 +5,4 @@ abbrev pub invariant-loop-behind : goal.invariant-loop-behind
 invariant-loop-behind l = l.left.election ≡ l.election
 
 abbrev pub decreases-loop-behind : goal.decreases-loop-behind
-decreases-loop-behind l = length l.left.records - l.left.place
+decreases-loop-behind l = length l.left.records - l.left.record_number

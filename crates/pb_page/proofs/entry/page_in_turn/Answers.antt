@@ -4,7 +4,7 @@ use Rattle.pb_records.specs.Loading.{Delivery}
 use Rattle.pb_reply.specs.Inside.Loaded.{lent}
 use Rattle.pb_reply.specs.Turns.{file_turn, turn}
 use Rattle.pb_reply.specs.Inside.Taking.{AuditsOutcome, IfTaken}
-use Rattle.pb_reply.specs.declared.stop.Stop.TheVariants.{Memory}
+use Rattle.pb_reply.specs.declared.unanswered.Unanswered.TheVariants.{Memory}
 use Rattle.pb_figures.specs.declared.amounts.Style.{Style}
 use Rattle.pb_figures.specs.declared.told.Told.{Told}
 use Rattle.pb_page.specs.Sums.{sums_of}
@@ -20,52 +20,52 @@ returns-in_err-taken g c =
     (turn g.E.Given.delivers c.args.election.now c.take_election.new.input)
     (file_turn g.O.Given.delivers c.args.outcome.now c.args.outcome.now)
     (turn g.C.Given.delivers c.args.certificate.now c.args.certificate.now) c.in_err-taken.field-0.0
-    c.in_err-taken.ensures.stopped refl refl
+    c.in_err-taken.ensures.unanswered refl refl
     )
 
 pub returns-in_err-funded : goal.returns-in_err-funded
 returns-in_err-funded g c =
     let is : c.from_residual-in_err-funded.result ≡ Err c.in_err-funded.field-0.0 =
-    err-is _ _ c.in_err-funded.field-0.0 (λ stop is_it. is_it) c.from_residual-in_err-funded.ensures in
+    err-is _ _ c.in_err-funded.field-0.0 (λ why is_it. is_it) c.from_residual-in_err-funded.ensures in
     let given = c.in_ok-taken.ensures.given in
     let taken =
     subst (λ (o : Option Delivery). IfTaken {A = List Bool} (Err c.in_err-funded.field-0.0) (AuditsOutcome c.in_ok-taken.taken.election o))
-    c.lend_file.ensures c.in_err-funded.ensures.taken in
+    c.file_given.ensures c.in_err-funded.ensures.taken in
     rw is (
     ended-at-outcome c.args.mode c.args.language
     (turn g.E.Given.delivers c.args.election.now c.take_election.new.input)
     (file_turn g.O.Given.delivers c.args.outcome.now c.take_file.new.input)
     (turn g.C.Given.delivers c.args.certificate.now c.args.certificate.now) given.delivery
-    (option_map g.O.Taken.Lend.delivery c.in_ok-given.given) c.in_ok-taken.taken.election c.in_err-funded.field-0.0 given.delivered
+    (option_map g.O.Taken.AsFile.delivery c.in_ok-given.given) c.in_ok-taken.taken.election c.in_err-funded.field-0.0 given.delivered
     given.states c.in_ok-given.ensures taken refl
     )
 
 pub returns-in_err-told : goal.returns-in_err-told
 returns-in_err-told g c =
     let is : c.from_residual-in_err-told.result ≡ Err c.in_err-told.field-0.0 =
-    err-is _ _ c.in_err-told.field-0.0 (λ stop is_it. is_it) c.from_residual-in_err-told.ensures in
+    err-is _ _ c.in_err-told.field-0.0 (λ why is_it. is_it) c.from_residual-in_err-told.ensures in
     let given = c.in_ok-taken.ensures.given in
     let taken =
     subst (λ (o : Option Delivery). AuditsOutcome c.in_ok-taken.taken.election o (Ok c.in_ok-funded.funded.marks))
-    c.lend_file.ensures c.in_ok-funded.ensures.taken in
+    c.file_given.ensures c.in_ok-funded.ensures.taken in
     let states =
     subst
     (λ (f : Delivery). IfTaken {A = Told} (Err c.in_err-told.field-0.0)
     (TellsCertificate c.args.mode c.in_ok-taken.taken.election c.in_ok-funded.funded.marks f))
-    c.lend.ensures c.in_err-told.ensures.told in
+    c.as_file.ensures c.in_err-told.ensures.told in
     rw is (
     ended-at-certificate c.args.mode c.args.language
     (turn g.E.Given.delivers c.args.election.now c.take_election.new.input)
     (file_turn g.O.Given.delivers c.args.outcome.now c.take_file.new.input)
     (turn g.C.Given.delivers c.args.certificate.now c.take.new.self) given.delivery
-    (option_map g.O.Taken.Lend.delivery c.in_ok-given.given) (g.C.Taken.Lend.delivery c.in_ok-certificate.certificate)
+    (option_map g.O.Taken.AsFile.delivery c.in_ok-given.given) (g.C.Taken.AsFile.delivery c.in_ok-certificate.certificate)
     c.in_ok-taken.taken.election c.in_ok-funded.funded.marks c.in_err-told.field-0.0 given.delivered given.states
     c.in_ok-given.ensures taken c.in_ok-certificate.ensures states
     )
 
 pub returns-in_err-certificate : goal.returns-in_err-certificate
 returns-in_err-certificate g c =
-    rw (err-is _ _ Memory (λ stop is_it. is_it) c.from_residual-in_err-certificate.ensures) tt
+    rw (err-is _ _ Memory (λ why is_it. is_it) c.from_residual-in_err-certificate.ensures) tt
 
 pub returns : goal.returns
 returns g c =
@@ -73,28 +73,28 @@ returns g c =
     let told = c.in_ok-told.told in
     let taken =
     subst (λ (o : Option Delivery). AuditsOutcome c.in_ok-taken.taken.election o (Ok c.in_ok-funded.funded.marks))
-    c.lend_file.ensures c.in_ok-funded.ensures.taken in
+    c.file_given.ensures c.in_ok-funded.ensures.taken in
     let tells =
     subst
     (λ (f : Delivery). TellsCertificate c.args.mode c.in_ok-taken.taken.election c.in_ok-funded.funded.marks f (Ok told))
-    c.lend.ensures c.in_ok-told.ensures.told in
+    c.as_file.ensures c.in_ok-told.ensures.told in
     let at_file =
     subst
-    (λ (f : Delivery). RendersTold told (sum_of c.in_ok-taken.taken.file ∷ sums_of (option_to_list (option_map lent c.lend_file-2.result) ++ f ∷ [])) c.in_ok-page.page)
-    c.lend-2.ensures c.in_ok-page.ensures in
+    (λ (f : Delivery). RendersTold told (sum_of c.in_ok-taken.taken.file ∷ sums_of (option_to_list (option_map lent c.file_given-2.result) ++ f ∷ [])) c.in_ok-page.page)
+    c.as_file-2.ensures c.in_ok-page.ensures in
     let at_outcome =
     subst
-    (λ (o : Option Delivery). RendersTold told (sum_of c.in_ok-taken.taken.file ∷ sums_of (option_to_list o ++ g.C.Taken.Lend.delivery c.in_ok-certificate.certificate ∷ [])) c.in_ok-page.page)
-    c.lend_file-2.ensures at_file in
+    (λ (o : Option Delivery). RendersTold told (sum_of c.in_ok-taken.taken.file ∷ sums_of (option_to_list o ++ g.C.Taken.AsFile.delivery c.in_ok-certificate.certificate ∷ [])) c.in_ok-page.page)
+    c.file_given-2.ensures at_file in
     let renders =
     subst
-    (λ (sum : List ℕ). RendersTold told (sum ∷ sums_of (option_to_list (option_map g.O.Taken.Lend.delivery c.in_ok-given.given) ++ g.C.Taken.Lend.delivery c.in_ok-certificate.certificate ∷ [])) c.in_ok-page.page)
+    (λ (sum : List ℕ). RendersTold told (sum ∷ sums_of (option_to_list (option_map g.O.Taken.AsFile.delivery c.in_ok-given.given) ++ g.C.Taken.AsFile.delivery c.in_ok-certificate.certificate ∷ [])) c.in_ok-page.page)
     given.is_sum at_outcome in
     answered c.args.mode c.args.language
     (turn g.E.Given.delivers c.args.election.now c.take_election.new.input)
     (file_turn g.O.Given.delivers c.args.outcome.now c.take_file.new.input)
     (turn g.C.Given.delivers c.args.certificate.now c.take.new.self) given.delivery
-    (option_map g.O.Taken.Lend.delivery c.in_ok-given.given) (g.C.Taken.Lend.delivery c.in_ok-certificate.certificate)
+    (option_map g.O.Taken.AsFile.delivery c.in_ok-given.given) (g.C.Taken.AsFile.delivery c.in_ok-certificate.certificate)
     c.in_ok-taken.taken.election c.in_ok-funded.funded.marks told c.in_ok-page.page given.delivered given.states
     c.in_ok-given.ensures taken c.in_ok-certificate.ensures tells
     (ap (λ (s : Style). s.language) c.in_ok-told.ensures.style) renders

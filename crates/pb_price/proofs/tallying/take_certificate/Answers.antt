@@ -17,9 +17,9 @@ returns-clause-taken c =
     let taken = c.in_ok-take_rows.ensures.taken in
     let whole =
     c.finish.ensures.taken _
-    (tallied-by c.in_ok-rows.rows c.args.election.now c.take_rows.new.tally taken c.in_ok-rows.ensures.election) in
+    (tallied-by c.in_ok-rows.rows c.args.election.now c.take_rows.new.so_far taken c.in_ok-rows.ensures.election) in
     let done = certified c.in_ok-rows.rows c.args.election.now (certificate_records c.args.bytes.now)
-    c.take_rows.new.tally c.finish.new.self taken c.in_ok-rows.ensures.election c.in_ok-rows.ensures.records whole
+    c.take_rows.new.so_far c.finish.new.self taken c.in_ok-rows.ensures.election c.in_ok-rows.ensures.records whole
     c.finish.ensures.closed in
     record {
       prices = prices_given taken.end;
@@ -28,8 +28,8 @@ returns-clause-taken c =
       low = c.denominator-denominator.ensures.low;
       high = c.denominator-denominator.ensures.high;
       tally = done.tally;
-      small_budget = omega (arith, whole.budget, whole.taken.small_budget);
-      few_steps = steps-bound _ _ _ whole (omega (arith, taken.few));
-      in_range = λ k ip. sums-of-bound c.args.election.now _ c.finish.new.self k whole ip;
-      steps = whole-steps c.args.election.now _ c.finish.new.self _ whole c.finish.ensures.closed done.rows;
+      small_budget = omega (arith, whole.tally.budget, whole.tally.taken.small_budget);
+      few_steps = steps-bound _ _ _ whole.tally (omega (arith, taken.few));
+      in_range = λ k ip. sums-of-bound c.args.election.now _ c.finish.new.self.tally k whole.tally ip;
+      steps = whole-steps c.args.election.now _ c.finish.new.self.tally _ whole.tally c.finish.ensures.closed done.rows;
     }

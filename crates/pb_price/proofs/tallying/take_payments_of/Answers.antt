@@ -27,14 +27,14 @@ loop-project-preserved c =
     (λ q. TakesRow c.loop-project.invariant.taken
     (with_next c.args.prices.now c.args.i c.loop-project.project-index c.loop-project.invariant.taken) q)
     (sym row_is)
-    (takes-next c.args.election.now c.args.prices.now c.args.i c.loop-project.project-index (0, 0) c.loop-project.tally
+    (takes-next c.args.election.now c.args.prices.now c.args.i c.loop-project.project-index (0, 0) c.loop-project.so_far
     c.loop-project.invariant map_is within)) in
-    took-next c.args.election.now c.args.prices.now c.args.i c.loop-project.project-index (0, 0) c.loop-project.tally
+    took-next c.args.election.now c.args.prices.now c.args.i c.loop-project.project-index (0, 0) c.loop-project.so_far
     c.take.new.self c.loop-project.invariant taken c.take.ensures.closed
 
 pub returns : goal.returns
 returns c =
-    took-voter c.args.election.now c.args.prices.now c.args.i c.loop-project.project-index c.loop-project.tally
+    took-voter c.args.election.now c.args.prices.now c.args.i c.loop-project.project-index c.loop-project.so_far
     c.loop-project.invariant c.requires.voter c.requires.prices
     (subst (λ qs. IsPaymentMap c.args.prices.now.projects qs) c.payments_of-payments.ensures.value
     c.payments_of-payments.ensures.map)

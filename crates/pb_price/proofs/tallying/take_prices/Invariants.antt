@@ -3,4 +3,4 @@ use Rattle.pb_price.specs.Inside.Tallying.{TakesUntil}
 use Rattle.pb_price.proofs.tallying.take_prices.Given as goal
 
 abbrev pub invariant-loop-k : goal.invariant-loop-k
-invariant-loop-k l = TakesUntil l.election l.prices (l.k + 1) 0 l.tally
+invariant-loop-k l = TakesUntil l.election l.prices (l.k + 1) 0 l.so_far

@@ -15,7 +15,7 @@ loop-behind-preserved c =
     record {
       same = given_row.same
           ∙ (let at : Rows
-          → Rows = λ x. record x { place = c.in_ok-behind.behind.place } in ap at c.loop-behind.invariant.same);
+          → Rows = λ x. record x { record_number = c.in_ok-behind.behind.record_number } in ap at c.loop-behind.invariant.same);
       tallied = c.take.ensures.taken _ _ c.loop-behind.invariant.tallied
           (takes-row c.loop-behind.left c.in_ok-behind.behind c.in-Some.row given_row);
       closed =

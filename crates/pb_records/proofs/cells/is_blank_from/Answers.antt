@@ -2,7 +2,8 @@ use Rattle.std.proofs.Common.{◌≡◌, ◌∙◌, sym, ap, refl, arith, false,
 use Rattle.csv.specs.Records.{fields_of}
 use Rattle.pb_money.specs.Digits.{is_empty}
 use Rattle.pb_money.proofs.Numbers.{is-empty}
-use Rattle.pb_records.proofs.CellLemmas.{blank-drop, blank-none, field-some}
+use Rattle.pb_records.proofs.CellLemmas.{blank-drop, blank-none}
+use Rattle.pb_records.proofs.Csv.{field-some}
 use Rattle.pb_records.proofs.Cleaning.{empty-by-front}
 use Rattle.pb_records.proofs.cells.is_blank_from.Goals as goal
 

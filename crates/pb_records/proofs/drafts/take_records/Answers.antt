@@ -10,7 +10,7 @@ rows-init g c =
 pub returns-in-Ok-NotText-clause-stopped : goal.returns-in-Ok-NotText-clause-stopped
 returns-in-Ok-NotText-clause-stopped g c =
     let met = rw c.in-Ok-NotText.field-0-is at c.in-Ok-NotText.ensures.next in
-    rw c.place.ensures.value (progress-not-text c.not_text.result c.rows.invariant met c.not_text.ensures)
+    rw c.record_number.ensures.value (progress-not-text c.not_text.result c.rows.invariant met c.not_text.ensures)
 
 pub rows-preserved : goal.rows-preserved
 rows-preserved g c =
@@ -21,7 +21,7 @@ pub returns-in-Err-Fault-clause-stopped : goal.returns-in-Err-Fault-clause-stopp
 returns-in-Err-Fault-clause-stopped g c =
     let met = rw c.in-Ok-Record.field-0-is at c.in-Ok-Record.ensures.next in
     let here = rw c.row.ensures at (rw c.in-Err-Fault.field-0-is at c.in-Err-Fault.ensures.stopped) in
-    rw c.place-in-Err-Fault.ensures.value (progress-fault c.in-Err-Fault.fault c.rows.invariant met here)
+    rw c.record_number-in-Err-Fault.ensures.value (progress-fault c.in-Err-Fault.fault c.rows.invariant met here)
 
 pub returns-in-None-clause-none : goal.returns-in-None-clause-none
 returns-in-None-clause-none g c =
@@ -31,4 +31,4 @@ returns-in-None-clause-none g c =
 pub returns-in-Some-clause-stopped : goal.returns-in-Some-clause-stopped
 returns-in-Some-clause-stopped g c =
     let met = rw c.in-Ok-End.field-0-is at c.in-Ok-End.ensures.next in
-    rw c.place-in-Some.ensures.value (progress-end c.in-Some.fault c.rows.invariant met c.in-Some.ensures)
+    rw c.record_number-in-Some.ensures.value (progress-end c.in-Some.fault c.rows.invariant met c.in-Some.ensures)

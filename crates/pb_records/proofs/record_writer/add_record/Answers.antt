@@ -1,7 +1,7 @@
 use Rattle.std.proofs.Common.{◌≢◌, map}
 use Rattle.csv.specs.Writing.{writer_setup}
 use Rattle.csv.specs.declared.writer.QuoteStyle.TheVariants as style
-use Rattle.pb_records.proofs.FlexibleWriter.{same-row_text}
+use Rattle.pb_records.proofs.Csv.{same-row_text}
 use Rattle.pb_records.proofs.record_writer.add_record.Goals as goal
 
 pub returns-clause-text : goal.returns-clause-text

@@ -5,21 +5,25 @@ use pb_certificate::CertFault;
 use pb_cohesion::ViolationFailure;
 use pb_election::ElectionFault;
 use pb_input::{InputFault, InputName};
-use pb_reply::{Answer, Fault, Format, Reply, Status, Unmet, one_line, settled, stop_at, stopped};
+use pb_reply::{
+    Answer, Fault, Format, Reply, Status, Unmet, one_line, or_refusal, reply_why, unanswered_at,
+};
 use std::alloc::{AllocError, Global};
 use std::process::Abort;
 use std::test::Fail;
 
 const NO: Status = Status::No(Unmet::Violation(ViolationFailure::V1));
 
-/// Its object.
-const OBJECT: &str = "{\"answer\":\"no\"}";
+/// The line of its object.
+const OBJECT: &str =
+    "{\"answer\":\"refused\",\"input\":\"folder\",\"kind\":\"refusal\",\"name\":\"Read\",\
+    \"number\":18,\"record\":0,\"version\":1}\n";
 
-/// A reply that work came to.
+/// A reply that work came to, with the object of another.
 fn reply(alloc: Global) -> Result<Reply, AllocError> {
+    let other = reply_why(alloc, &unanswered_at(InputName::Folder, InputFault::Unread))?;
     let line = String::from_str(alloc, "supported stable")?;
-    let json = String::from_str(alloc, OBJECT)?;
-    let mut reply = one_line(alloc, line, json, NO)?;
+    let mut reply = one_line(alloc, line, other.object, NO)?;
     reply.lines.push(String::from_str(alloc, "failed V1")?)?;
     Ok(reply)
 }
@@ -33,10 +37,10 @@ fn expect_answer(rt: &impl Abort, answer: &Answer<Status>, text: &str, status: S
 #[test]
 fn work_that_came_to_its_end_is_settled_as_it_is(rt: HostRuntime) -> Result<(), Fail> {
     let alloc = rt.alloc();
-    let own = settled(alloc, Ok(reply(alloc)?))?;
+    let own = or_refusal(alloc, Ok(reply(alloc)?))?;
     expect_lines(&rt, &own.lines, &["supported stable", "failed V1"]);
     assert_eq!(rt; own.status, NO);
-    let answer = settled(alloc, Ok(own.answer(alloc)?))?;
+    let answer = or_refusal(alloc, Ok(own.answer(alloc)?))?;
     expect_answer(&rt, &answer, "supported stable\nfailed V1\n", NO);
     Ok(())
 }
@@ -48,10 +52,12 @@ fn a_reply_is_written_as_lines_or_as_an_object_or_as_both(rt: HostRuntime) -> Re
     let answer = reply.answer_as(alloc, Format::Lines)?;
     expect_answer(&rt, &answer, "supported stable\nfailed V1\n", NO);
     let answer = reply.answer_as(alloc, Format::Json)?;
-    expect_answer(&rt, &answer, "{\"answer\":\"no\"}\n", NO);
-    let both = "{\"answer\":\"no\"}\nsupported stable\nfailed V1\n";
+    expect_answer(&rt, &answer, OBJECT, NO);
+    let text = reply.object.text(alloc)?;
+    assert!(rt; OBJECT.trim_end() == text.as_str(), "{text}");
+    let both = format!(in alloc; "{OBJECT}supported stable\nfailed V1\n")?;
     let answer = reply.answer_as(alloc, Format::JsonAndLines)?;
-    expect_answer(&rt, &answer, both, NO);
+    expect_answer(&rt, &answer, &both, NO);
     Ok(())
 }
 
@@ -65,14 +71,14 @@ fn what_stopped_the_work_is_told_in_a_line(rt: HostRuntime) -> Result<(), Fail> 
     let line = "refused certificate 26 OutOfOrder record 6";
     let object = "{\"answer\":\"refused\",\"input\":\"certificate\",\"kind\":\"refusal\",\
         \"name\":\"OutOfOrder\",\"number\":26,\"record\":6,\"version\":1}\n";
-    let stop = stop_at(input, fault);
-    let reply = stopped(alloc, &stop)?;
+    let why = unanswered_at(input, fault);
+    let reply = reply_why(alloc, &why)?;
     expect_lines(&rt, &reply.lines, &[line]);
     let answer = reply.answer_as(alloc, Format::Json)?;
     expect_answer(&rt, &answer, object, refused(input, fault));
     assert_eq!(rt; reply.status, refused(input, fault));
-    let stop = stop_at(InputName::Folder, InputFault::Unread);
-    let answer: Answer<Status> = settled(alloc, Err(stop))?;
+    let why = unanswered_at(InputName::Folder, InputFault::Unread);
+    let answer: Answer<Status> = or_refusal(alloc, Err(why))?;
     let status = refused(InputName::Folder, InputFault::Unread);
     let text = "refused folder 18 Read record 0\n";
     expect_answer(&rt, &answer, text, status);
@@ -86,10 +92,10 @@ fn want_of_memory_is_told_in_no_line(rt: HostRuntime) {
         in_election(ElectionFault::Memory, 0),
         in_certificate(CertFault::Memory, 0),
     ] {
-        let stop = stop_at(InputName::Election, fault);
-        assert!(rt; stopped(rt.alloc(), &stop).is_err());
-        assert!(rt; settled::<Reply>(rt.alloc(), Err(stop)).is_err());
-        assert!(rt; settled::<Answer<Status>>(rt.alloc(), Err(stop)).is_err());
+        let why = unanswered_at(InputName::Election, fault);
+        assert!(rt; reply_why(rt.alloc(), &why).is_err());
+        assert!(rt; or_refusal::<Reply>(rt.alloc(), Err(why)).is_err());
+        assert!(rt; or_refusal::<Answer<Status>>(rt.alloc(), Err(why)).is_err());
     }
 }
 

@@ -2,7 +2,7 @@
 use pb_election::{Election, Input, Outcome};
 use pb_input::{InputName, InputRefusal};
 use pb_reply::{
-    File, Given, Lend, Loaded, Stop, bytes_of, election_of, outcome_of, take_election,
+    AsFile, File, Given, Loaded, Unanswered, bytes_of, election_of, outcome_of, take_election,
     take_outcome, violation_of,
 };
 use pb_samples::fakes::InterruptedReader;
@@ -17,13 +17,18 @@ use std::test::Fail;
 type Why = (&'static str, u32, &'static str, u64);
 
 /// What an input is refused for, where it is. An error means out of memory.
-fn why<T>(taken: &Result<T, Stop>) -> Result<Option<Why>, AllocError> {
+fn why<T>(taken: &Result<T, Unanswered>) -> Result<Option<Why>, AllocError> {
     match taken {
         Ok(_) => Ok(None),
-        Err(Stop::Refused(InputRefusal { input, fault })) => {
-            Ok(Some((input.name(), fault.number(), fault.name(), fault.place())))
+        Err(Unanswered::Refused(InputRefusal { input, fault })) => {
+            Ok(Some((
+                input.name(),
+                fault.number(),
+                fault.name(),
+                fault.record_number(),
+            )))
         }
-        Err(Stop::Memory) => Err(AllocError {}),
+        Err(Unanswered::Memory) => Err(AllocError {}),
     }
 }
 
@@ -51,7 +56,7 @@ fn file_in_memory_is_taken_whenever_its_turn_comes(rt: HostRuntime) -> Result<()
     let mut file = File::in_memory(b"abc");
     for _ in 0..2 {
         let taken = file.take(rt.alloc())?;
-        assert!(rt; matches!(taken.lend(), File::Bytes(b"abc")));
+        assert!(rt; matches!(taken.as_file(), File::Bytes(b"abc")));
     }
     Ok(())
 }
@@ -109,7 +114,7 @@ fn violation_is_taken_or_refused_by_the_name_it_has(rt: HostRuntime) -> Result<(
 fn expect_outcome(
     rt: &impl Abort,
     election: &Election,
-    taken: &Result<Outcome, Stop>,
+    taken: &Result<Outcome, Unanswered>,
     want: Result<[bool; 3], Why>,
 ) -> Result<(), Fail> {
     let refusal = why(taken)?;
@@ -175,8 +180,8 @@ fn expect_load(
 ) -> Result<(), Fail> {
     let mut reader = InterruptedReader::new("abcdef", 2, interrupted_at);
     let loaded = Loaded::load(alloc, &mut Input::new(&mut reader))?;
-    let is_whole = matches!(loaded.lend(), File::Bytes(b"abcdef"));
-    let is_unread = matches!(loaded.lend(), File::Unread);
+    let is_whole = matches!(loaded.as_file(), File::Bytes(b"abcdef"));
+    let is_unread = matches!(loaded.as_file(), File::Unread);
     assert_eq!(rt; (is_whole, is_unread), (whole, !whole));
     assert_eq!(rt; reader.reads, reads);
     Ok(())
@@ -230,7 +235,7 @@ fn taken(
     election: &Election,
     text: Option<&str>,
     interrupted_at: usize,
-) -> Result<Outcome, Stop> {
+) -> Result<Outcome, Unanswered> {
     let mut file = text.map(|text| Input::new(InterruptedReader::new(text, 20, interrupted_at)));
     take_outcome(alloc, &mut file, election)
 }

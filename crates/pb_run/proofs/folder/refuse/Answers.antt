@@ -10,7 +10,7 @@ pub returns : goal.returns
 returns g c =
     let told = c.in_ok-reply.ensures ∙ ap refused c.unlisted.ensures in
     let answered =
-    c.in_ok-answer.ensures
+    c.in_ok-answer.ensures.text
     ∙ ap (λ (f : Format). answer_as f c.in_ok-reply.reply) c.format_of.ensures
     ∙ ap (λ (r : Reply). answer_as (format_of c.args.json) r) told in
     subst

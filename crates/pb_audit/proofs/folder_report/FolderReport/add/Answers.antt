@@ -1,12 +1,14 @@
-use Rattle.std.proofs.Common.{refl, subst, sym}
+use Rattle.std.proofs.Common.{◌≡◌, refl, subst, sym, true}
 use Rattle.std.specs.Prelude.{string_bytes}
 use Rattle.pb_audit.specs.Inside.Folders.{files_of, found_as}
 use Rattle.pb_audit.specs.Reports.{HasTaken, Progress}
+use Rattle.pb_reply.specs.Replies.{AreJsonLines}
+use Rattle.pb_audit.proofs.JsonLines.{one_line_more}
 use Rattle.pb_audit.proofs.Reports.{takes_more}
 use Rattle.pb_audit.proofs.folder_report.FolderReport.add.Goals as goal
 
 pub returns-clause-taken : goal.returns-clause-taken
-returns-clause-taken c = λ entries taken.
+returns-clause-taken c = λ entries written taken.
     takes_more
     (record
     { as_json = c.self.inside.as_json; mode = c.self.inside.mode; text = string_bytes c.self.inside.text; endings = c.self.inside.endings.items })
@@ -16,6 +18,12 @@ returns-clause-taken c = λ entries taken.
       text = string_bytes c.push_entry.new.text;
       endings = c.push_endings.new.endings.items;
     })
-    entries (files_of c.args.entry.now) (found_as c.args.entry.now c.in_ok-found.found) refl refl c.in_ok-push_entry.ensures
+    entries written (files_of c.args.entry.now) (found_as c.args.entry.now c.in_ok-found.found) refl refl c.in_ok-push_entry.ensures.text
     c.in_ok-push_endings.ensures c.in_ok-found.ensures
-    (subst (λ (p : Progress). HasTaken p entries) (sym c.self.view_is) taken)
+    (subst (λ (p : Progress). HasTaken p entries written) (sym c.self.view_is) taken)
+
+pub returns-clause-json : goal.returns-clause-json
+returns-clause-json c = λ is are.
+    one_line_more (string_bytes c.self.inside.text) (string_bytes c.push_entry.new.text)
+    (subst (λ (p : Progress). AreJsonLines p.text) (sym c.self.view_is) are)
+    (c.in_ok-push_entry.ensures.json (subst (λ (p : Progress). p.as_json ≡ true) (sym c.self.view_is) is))

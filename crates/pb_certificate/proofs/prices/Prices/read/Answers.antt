@@ -30,11 +30,11 @@ new-requires-2 c =
     let recs = certificate_records c.args.bytes.now in
     let text =
     runs-state recs e c.in_ok-rows.rows c.projects.result c.denominator-denominator.result c.budget-budget.result
-    c.gather.new.ledger c.in_ok-gather.ensures.all c.in_ok-rows.ensures.election
+    c.gather.new.sink c.in_ok-gather.ensures.all c.in_ok-rows.ensures.election
     c.in_ok-rows.ensures.records c.projects.ensures.value c.denominator-denominator.ensures.value
     c.budget-budget.ensures.value in
     (states-prices recs e
-    (prices-by c.projects.result c.denominator-denominator.result c.budget-budget.result c.gather.new.ledger)
+    (prices-by c.projects.result c.denominator-denominator.result c.budget-budget.result c.gather.new.sink)
     text).system
 
 pub returns-clause-found : goal.returns-clause-found
@@ -43,7 +43,7 @@ returns-clause-found c =
     let recs = certificate_records c.args.bytes.now in
     let text =
     runs-state recs e c.in_ok-rows.rows c.projects.result c.denominator-denominator.result c.budget-budget.result
-    c.gather.new.ledger c.in_ok-gather.ensures.all c.in_ok-rows.ensures.election
+    c.gather.new.sink c.in_ok-gather.ensures.all c.in_ok-rows.ensures.election
     c.in_ok-rows.ensures.records c.projects.ensures.value c.denominator-denominator.ensures.value
     c.budget-budget.ensures.value in
     subst (IsPriceText recs e) (sym c.new-2.ensures) text

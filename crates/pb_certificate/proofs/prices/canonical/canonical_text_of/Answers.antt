@@ -31,7 +31,7 @@ returns-clause-found c =
     let recs = certificate_records c.args.bytes.now in
     let gathered = c.in_ok-gather.ensures.all in
     let states =
-    states-all recs e c.in_ok-rows.rows (HasWritten c.gather.new.ledger) gathered c.in_ok-rows.ensures.election
+    states-all recs e c.in_ok-rows.rows (HasWritten c.gather.new.sink) gathered c.in_ok-rows.ensures.election
     c.in_ok-rows.ensures.records in
     record {
       prices = gathered.prices;

@@ -12,4 +12,4 @@ returns-in_err-next_record c =
 pub returns : goal.returns
 returns c =
     let met = rw c.if-branch.false at c.in_ok-next_record.ensures in
-    rw c.place.ensures.value (head-ends c.args.cursor.now c.next_record.new.cursor met)
+    rw c.record_number.ensures.value (head-ends c.args.cursor.now c.next_record.new.cursor met)

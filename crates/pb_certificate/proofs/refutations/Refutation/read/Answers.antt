@@ -48,7 +48,7 @@ returns-in-Err-clause-only c = λ w text. (
     let recs = certificate_records c.args.bytes.now in
     let e = c.args.election.now in
     c.of.ensures ∙ stop-is-memory (refutation_form e) recs c.in-Err.stop c.in-Err.ensures.stopped
-    (λ f. refutation-clear recs e w text f.place f.fault)
+    (λ f. refutation-clear recs e w text f.record_number f.fault)
     )
 
 pub returns-in-Err-clause-refused : goal.returns-in-Err-clause-refused

@@ -16,7 +16,7 @@ returns-in-Err-clause-only c = λ m s t text. (
     let recs = certificate_records c.args.bytes.now in
     let e = c.args.election.now in
     c.of.ensures ∙ stop-is-memory (violation_form e) recs c.in-Err.stop c.in-Err.ensures.stopped
-    (λ f. group-clear recs e m s t text f.place f.fault)
+    (λ f. group-clear recs e m s t text f.record_number f.fault)
     )
 
 pub of-requires-2-clause-group : goal.of-requires-2-clause-group

@@ -1,5 +1,5 @@
 use Rattle.std.proofs.Common.{◌+◌, arith}
-use Rattle.pb_cohesion.specs.Refutations.{most_counted, taken_left}
+use Rattle.pb_cohesion.specs.Refutations.{gain, missed}
 use Rattle.pb_cohesion.proofs.Loops.{set-length, sum-next}
 use Rattle.pb_cohesion.proofs.Refuting.{taken-budgets}
 use Rattle.pb_cohesion.proofs.Weights.{counted-is, left-is}
@@ -19,8 +19,8 @@ loop-k-preserved c =
     c.taken_left-left.result c.ballot-ballot.ensures.value c.ballot-ballot.ensures.rising
     c.most_counted.ensures.value left in
     record {
-      counted = omega (arith, most, sum-next (most_counted e w r) c.loop-k.k);
-      taken = omega (arith, left, sum-next (taken_left e w r) c.loop-k.k);
+      counted = omega (arith, most, sum-next (gain e w r) c.loop-k.k);
+      taken = omega (arith, left, sum-next (missed e w r) c.loop-k.k);
       small_counted = omega arith;
       small_taken = omega arith;
     }

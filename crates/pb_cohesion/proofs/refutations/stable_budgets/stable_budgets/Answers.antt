@@ -1,5 +1,5 @@
 use Rattle.std.proofs.Common.{◌+◌, arith}
-use Rattle.pb_cohesion.specs.Refutations.{stable_counted}
+use Rattle.pb_cohesion.specs.Refutations.{stable_gain}
 use Rattle.pb_cohesion.proofs.Loops.{set-length, sum-next}
 use Rattle.pb_cohesion.proofs.Weights.{left-is, stable-counted-is}
 use Rattle.pb_cohesion.proofs.refutations.stable_budgets.stable_budgets.Goals as goal
@@ -21,6 +21,6 @@ loop-k-preserved c =
     c.taken_left-left.result c.ballot-ballot.ensures.value c.ballot-ballot.ensures.rising
     c.stable_counted.ensures.value left in
     record {
-      counted = omega (arith, most, sum-next (stable_counted e w r) c.loop-k.k);
+      counted = omega (arith, most, sum-next (stable_gain e w r) c.loop-k.k);
       small = omega arith;
     }

@@ -1,8 +1,7 @@
 use Rattle.std.proofs.Common.{◌≡◌, ◌∙◌, ◌+◌, ◌-◌, ◌/◌, ℕ, true, filter, subst, sym, arith}
-use Rattle.pb_certificate.specs.Refutations.{row_of}
 use Rattle.pb_election.specs.Outcome.{has}
 use Rattle.pb_cohesion.specs.Amounts.{largest_by}
-use Rattle.pb_cohesion.specs.Refutations.{counted_in, is_made_up}
+use Rattle.pb_cohesion.specs.Refutations.{counts, is_made_up, positive_part}
 use Rattle.pb_cohesion.proofs.Least.{least-found, made-up-at-most, not-made-up-below}
 use Rattle.pb_cohesion.proofs.refutations.stable_budgets.stable_counted.Goals as goal
 
@@ -39,6 +38,6 @@ returns-clause-value c =
     let r = c.args.refutation.now in
     let z = c.args.left in
     let cs = filter (has c.args.outcome.now.marks) c.args.ballot.now in
-    least-found (largest_by (λ j. counted_in (row_of r j) z) cs) (is_made_up r z cs) c.loop-low.high
+    least-found (largest_by (λ j. positive_part (counts r z j)) cs) (is_made_up r z cs) c.loop-low.high
     (made-up-at-most r z cs) c.loop-low.invariant.made_up
     (λ y low. c.loop-low.invariant.none_below y (omega (arith, c.loop-low-test.false)))

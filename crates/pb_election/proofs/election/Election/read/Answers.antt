@@ -31,4 +31,4 @@ pub returns-in-Err-Fault-clause-only : goal.returns-in-Err-Fault-clause-only
 returns-in-Err-Fault-clause-only c = λ e p.
     let recs = election_records c.args.bytes.now in
     let first = rw c.in-Err-Fault.field-0-is at c.in-Err-Fault.ensures.stopped in
-    absurd (apart recs e c.in-Err-Fault.field-0-0.place c.in-Err-Fault.field-0-0.fault p first)
+    absurd (apart recs e c.in-Err-Fault.at.record_number c.in-Err-Fault.at.fault p first)

@@ -10,10 +10,11 @@ use Rattle.pb_price.proofs.Closing.{closed, left-kept, most-kept}
 use Rattle.pb_price.proofs.tally.Tally.close.Goals as goal
 
 pub left_of-left-requires-clause-spent : goal.left_of-left-requires-clause-spent
-left_of-left-requires-clause-spent c = grind (arith, spent-bound)
+left_of-left-requires-clause-spent c =
+    omega (arith, spent-bound _ _ _ _ _ c.requires.tallied.1 c.requires.tallied.2)
 
 pub offer_of-offer-requires : goal.offer_of-offer-requires
-offer_of-offer-requires c = grind (arith, largest-bound)
+offer_of-offer-requires c = omega (arith, largest-bound _ _ _ _ _ c.requires.tallied.1 c.requires.tallied.2)
 
 pub give-requires : goal.give-requires
 give-requires c =
@@ -24,15 +25,16 @@ give-requires c =
       left =
           subst (IsWithin (10 ^ 32))
           (sym
-          (left-kept c.args.election.now c.requires.tallied.0 c.args.self.now c.left_of-left.result c.requires.tallied.1
-          c.left_of-left.ensures))
+          (left-kept c.args.election.now c.requires.tallied.0 c.args.self.now c.args.at_hand c.left_of-left.result
+          c.requires.tallied.1 c.requires.tallied.2 c.left_of-left.ensures))
           (left-bound c.args.election.now c.requires.tallied.0 c.args.self.now (c.args.self.now.closed + 1)
           c.requires.tallied.1);
       offer =
           subst (IsWithin (10 ^ 32))
           (sym
-          (most-kept c.args.election.now c.requires.tallied.0 c.args.self.now c.left_of-left.result
-          c.offer_of-offer.result c.requires.tallied.1 c.left_of-left.ensures c.offer_of-offer.ensures))
+          (most-kept c.args.election.now c.requires.tallied.0 c.args.self.now c.args.at_hand c.left_of-left.result
+          c.offer_of-offer.result c.requires.tallied.1 c.requires.tallied.2 c.left_of-left.ensures
+          c.offer_of-offer.ensures))
           (most-bound c.args.election.now c.requires.tallied.0 c.args.self.now (c.args.self.now.closed + 1)
           c.requires.tallied.1);
       fits = λ k d w. subst (λ xs. AreSmall (get_or xs k d)) (sym c.deref_mut.ensures.value)
@@ -41,31 +43,40 @@ give-requires c =
     }
 
 pub overflow_cast-compared : goal.overflow_cast-compared
-overflow_cast-compared c = grind (arith, spent-bound)
+overflow_cast-compared c = omega (arith, spent-bound _ _ _ _ _ c.requires.tallied.1 c.requires.tallied.2)
 
 pub note-requires : goal.note-requires
-note-requires c = grind (arith, spent-bound, over-few, over-small)
+note-requires c =
+    let spent =
+    spent-bound c.args.election.now c.requires.tallied.0 c.args.self.now (c.args.self.now.closed + 1) c.args.at_hand
+    c.requires.tallied.1 c.requires.tallied.2 in
+    let few = over-few c.args.election.now c.requires.tallied.0 c.args.self.now c.requires.tallied.1 in
+    let small = over-small c.args.election.now c.requires.tallied.0 c.args.self.now c.requires.tallied.1 in
+    grind arith
 
 pub overflow_add-self : goal.overflow_add-self
 overflow_add-self c = grind arith
 
 pub overflow_add-self-2 : goal.overflow_add-self-2
-overflow_add-self-2 c = grind (arith, steps-bound, ballot-bound)
+overflow_add-self-2 c =
+    let bound =
+    steps-bound c.args.election.now c.requires.tallied.0 c.args.self.now c.requires.tallied.1 c.requires.tallied.3 in
+    grind (arith, ballot-bound)
 
 pub returns-clause-taken : goal.returns-clause-taken
-returns-clause-taken c = λ a h. (
+returns-clause-taken c = λ a h w. (
     let items_are =
     with_items_is c.args.self.now.projects c.give.new.projects (c.give.ensures.as_many ∙ c.deref_mut.ensures.len) in
-    closed c.args.election.now a c.args.self.now _ _ _ h c.requires.more
-    (left-kept c.args.election.now a c.args.self.now c.left_of-left.result h c.left_of-left.ensures)
-    (most-kept c.args.election.now a c.args.self.now c.left_of-left.result c.offer_of-offer.result h
+    closed c.args.election.now a c.args.self.now _ c.args.at_hand _ _ h w c.requires.more
+    (left-kept c.args.election.now a c.args.self.now c.args.at_hand c.left_of-left.result h w c.left_of-left.ensures)
+    (most-kept c.args.election.now a c.args.self.now c.args.at_hand c.left_of-left.result c.offer_of-offer.result h w
     c.left_of-left.ensures c.offer_of-offer.ensures)
     (changed-as _ _ _ _ _ _ _ c.deref_mut.ensures.value (sym items_are) c.ballot-ballot.ensures.value c.give.ensures)
-    refl refl refl refl
+    refl refl refl
     (c.note.ensures
     ∙ ap
-    (λ z. noted (nat_lt c.args.self.now.budget c.args.self.now.spent)
+    (λ z. noted (nat_lt c.args.self.now.budget c.args.at_hand.spent)
     (compared (c.args.self.now.closed + 1) c.args.self.now.budget z) c.args.self.now.over_budget)
-    (omega (arith, ints, spent-bound c.args.election.now a c.args.self.now h)))
-    (ap (λ xs. c.args.self.now.steps + (length xs + 1)) c.ballot-ballot.ensures.value) refl refl
+    (omega (arith, ints, spent-bound c.args.election.now a c.args.self.now _ c.args.at_hand h w)))
+    (ap (λ xs. c.args.self.now.steps + (length xs + 1)) c.ballot-ballot.ensures.value)
     )

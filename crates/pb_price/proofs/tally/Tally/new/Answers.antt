@@ -7,6 +7,6 @@ pub returns : goal.returns
 returns c =
     let items = c.in_ok-vec.ensures.items_if_clones_equal (λ y same. same) in (
       start c.args.election.now _ c.projects.ensures.sound c.requires
-          (items ∙ ap (λ n. replicate n nothing) c.projects.ensures.value) refl refl refl refl refl refl refl,
+          (items ∙ ap (λ n. replicate n nothing) c.projects.ensures.value) refl refl refl refl,
       refl,
     )

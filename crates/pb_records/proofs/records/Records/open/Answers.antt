@@ -1,6 +1,5 @@
 use Rattle.std.proofs.Common.{arith}
-use Rattle.pb_records.proofs.ByteOrderMarks.{strip_bom-drop_marks}
-use Rattle.pb_records.proofs.RecordSteps.{count-records}
+use Rattle.pb_records.proofs.ByteOrderMarks.{count-records, strip_bom-drop_marks}
 use Rattle.pb_records.proofs.records.Records.open.Goals as goal
 
 pub rest_of-requires : goal.rest_of-requires

@@ -11,7 +11,7 @@ take-requires g c =
     IsNonDecreasingBy-from_sort_by_key (λ p. p.0) _ c.sort_unstable_by_key.ensures.sorted
     (λ a r q k. search rules) in
     rw c.deref.ensures.value
-    (can-take (g.L.Ledger.Has c.args.ledger.now) some.0 some.1 c.args.self.now c.sort_unstable_by_key.new.self.items
+    (can-take (g.L.PaymentSink.Has c.args.sink.now) some.0 some.1 c.args.self.now c.sort_unstable_by_key.new.self.items
     some.2 sorted c.sort_unstable_by_key.ensures.permutation)
 
 pub returns-clause-holds : goal.returns-clause-holds
@@ -23,7 +23,7 @@ returns-clause-holds g c = λ s qs h. (
     let next = ap (λ (k : ℕ). k + 1) (sym (done-length s qs turn.done)) in
     let taken =
     rw c.deref.ensures.value at (c.in_ok-take.ensures s.election (prices_up_to s qs turn.done) h.has_done next) in
-    closed (g.L.Ledger.Has c.args.ledger.now) (g.L.Ledger.Has c.take.new.self) s qs turn _
+    closed (g.L.PaymentSink.Has c.args.sink.now) (g.L.PaymentSink.Has c.take.new.self) s qs turn _
     c.sort_unstable_by_key.new.self.items h sorted c.sort_unstable_by_key.ensures.permutation taken refl
     c.clear.ensures.items
     )

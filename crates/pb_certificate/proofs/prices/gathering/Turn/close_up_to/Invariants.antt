@@ -7,9 +7,9 @@ use Rattle.pb_certificate.proofs.prices.gathering.Turn.close_up_to.Given as goal
 abbrev pub invariant-loop-self : goal.invariant-loop-self
 invariant-loop-self g l =
     record {
-      some : HoldSome (g.L.Ledger.Has l.ledger) l.self;
-      holds : (s : Rows) (qs : List Payment) → Holds (g.L.Ledger.Has l.initial.ledger) s qs l.initial.self
-          → Holds (g.L.Ledger.Has l.ledger) s qs l.self;
+      some : HoldSome (g.L.PaymentSink.Has l.sink) l.self;
+      holds : (s : Rows) (qs : List Payment) → Holds (g.L.PaymentSink.Has l.initial.sink) s qs l.initial.self
+          → Holds (g.L.PaymentSink.Has l.sink) s qs l.self;
       within : l.self.done ≤ l.voters;
     }
 

@@ -7,7 +7,7 @@ use Rattle.pb_certificate.proofs.prices.row_reader.RowReader.open.Goals as goal
 pub returns-in_err-denominator-clause-in_head : goal.returns-in_err-denominator-clause-in_head
 returns-in_err-denominator-clause-in_head c =
     let p = err_from_is_err_and c.from_residual.result c.from_residual.ensures.1 in
-    let at = opened c.args.election.now (certificate_records c.args.bytes.now) c.open-cursor.result c.open-cursor.ensures.place
+    let at = opened c.args.election.now (certificate_records c.args.bytes.now) c.open-cursor.result c.open-cursor.ensures.record_number
     c.open-cursor.ensures.left in
     rw (p.1, p.2)
     (refused-in-head (certificate_records c.args.bytes.now) c.args.election.now c.read_head.new.cursor
@@ -15,7 +15,7 @@ returns-in_err-denominator-clause-in_head c =
 
 pub returns-clause-reading : goal.returns-clause-reading
 returns-clause-reading c =
-    let at = opened c.args.election.now (certificate_records c.args.bytes.now) c.open-cursor.result c.open-cursor.ensures.place
+    let at = opened c.args.election.now (certificate_records c.args.bytes.now) c.open-cursor.result c.open-cursor.ensures.record_number
     c.open-cursor.ensures.left in
     let read = c.in_ok-denominator.ensures c.args.election.now (certificate_records c.args.bytes.now) at in
     record {

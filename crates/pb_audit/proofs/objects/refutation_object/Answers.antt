@@ -1,0 +1,19 @@
+use Rattle.std.proofs.Common.{◌∙◌, ap, subst, sym}
+use Rattle.serde_json.specs.Data.{Data}
+use Rattle.pb_json.specs.Refutations.{refutation_json}
+use Rattle.serde_json.specs.Written.{compact_text}
+use Rattle.pb_json.specs.Texts.{IsPlain, most_nested}
+use Rattle.pb_json.proofs.Plain.{plain_enough, refutation_is_plain}
+use Rattle.pb_audit.specs.Objects.{refutation_text}
+use Rattle.pb_audit.proofs.objects.refutation_object.Goals as goal
+
+pub new-requires : goal.new-requires
+new-requires c =
+    subst (λ (d : Data). IsPlain most_nested d) (sym c.in_ok-object.ensures)
+    (plain_enough
+    (refutation_json c.args.election.now c.args.outcome.now.marks c.args.verdict c.args.findings.now)
+    (refutation_is_plain c.args.election.now c.args.outcome.now.marks c.args.verdict c.args.findings.now))
+
+pub returns : goal.returns
+unfolding refutation_text
+returns c = c.new.ensures ∙ ap compact_text c.in_ok-object.ensures

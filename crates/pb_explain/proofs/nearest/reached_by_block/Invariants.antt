@@ -1,5 +1,0 @@
-use Rattle.pb_explain.specs.Reached.{AreReached}
-use Rattle.pb_explain.proofs.nearest.reached_by_block.Given as goal
-
-abbrev pub invariant-loop-k : goal.invariant-loop-k
-invariant-loop-k l = AreReached l.k l.election l.low l.words.items
