@@ -62,7 +62,7 @@ TESTS = {
 }  # fmt: skip
 # How such a test ends out of memory: by the call, or by the writer into memory that the test gives it.
 WANTS = (
-    rb"error: (AllocError|AllocFailed \{ \.\. \}|Memory|Write|(Cert)?Refusal \{ fault: Memory, place: 0 \})\n",
+    rb"error: (AllocError|AllocFailed \{ \.\. \}|Memory|Write|(Cert)?Refusal \{ fault: Memory, record_number: 0 \})\n",
     rb"assertion `left == right` failed\n  left: Err\((Memory|Write)\)\n right: Ok\(\(\)\)\n",
 )
 Said = collections.namedtuple("Said", "text errors status")
