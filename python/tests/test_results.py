@@ -127,9 +127,9 @@ def results():
     made = price_certificate(instance, profile, [x, y], 4, payments)
     explanation, short = verdict.explain(), pbaudit.groups_that_fall_short(instance, profile, [])
     told = pbaudit.audit_groups(town, pbaudit.write_outcome([]))
-    found = [verdict, explanation, explanation.findings[0], pbaudit.read(town), pbaudit.margins(town, prices)[0], made,
-             made.price_system, equal_shares(instance, profile), told, told.group, pbaudit.explain_groups(town),
-             pbaudit.group_margins(town)[0], short[0]]
+    found = [verdict, explanation, explanation.findings[0], explanation.nearest, pbaudit.read(town),
+             pbaudit.margins(town, prices)[0], made, made.price_system, equal_shares(instance, profile), told, told.group,
+             pbaudit.explain_groups(town), pbaudit.group_margins(town)[0], short[0]]
     with tempfile.TemporaryDirectory() as room:
         pathlib.Path(room, f"t{HOSTILE.replace('/', '')}.pb").write_bytes(town)
         report = pbaudit.audit_folder(room)
