@@ -18,7 +18,7 @@ from .files import MOST_BYTES, File, bytes_of, path_of
 from .kept import Kept, keep, source_of, stamp_of
 from .objects import Found, amount_of, election_notes, line_of
 from .records import records
-from .sentences import rows_of
+from .sentences import group_sentences, rows_of
 from .shown import visible
 from .tables import Result
 
@@ -362,10 +362,8 @@ def _explained(question: Question, kept: Optional[Kept]) -> Explanation:
 
 def _explanation(verdict: Verdict, question: Question, report: Report) -> Explanation:
     findings = tuple(Finding(*row) for row in rows_of(report.found, question.certificate or b""))
-    text = report.text.decode("utf-8")
-    # A line for each finding stands between two that are empty, behind the verdict. The rest is on groups.
-    groups = text.rstrip("\n").split("\n")[len(findings) + 3:]
-    return Explanation(verdict, findings, text, tuple(groups), _nearest(report.found.get("nearest")))
+    return Explanation(verdict, findings, report.text.decode("utf-8"), tuple(group_sentences(report.found)),
+                       _nearest(report.found.get("nearest")))
 
 
 def _nearest(found: Optional[Found]) -> Optional[NearestGroup]:

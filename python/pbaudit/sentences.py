@@ -1,5 +1,5 @@
-"""What each condition or test comes to, in a sentence with the amounts that it compares: the sentences of `explain`, by the
-object that answers (docs/JSON.md)."""
+"""What each condition or test comes to, in a sentence with the amounts that it compares, and what a yes to prices says of
+groups: the sentences of `explain`, by the object that answers (docs/JSON.md)."""
 from collections import Counter
 from fractions import Fraction
 from typing import Callable, Dict, List, NamedTuple, Union
@@ -13,6 +13,14 @@ _HOW = {"Exhaustive": "without --no-exhaustive", "Cover": "with --cover", "C5": 
 _ALL_FUNDED = "every project is funded"
 # How many records of a refutation stand before its rows.
 _HEAD = 3
+_EQUAL_PART = "take any voters who all approve an unfunded project: their equal part of the limit is"
+_REACH = "that project's cost plus the cost of all funded projects that at least one of them approves"
+# What a yes to prices says of groups.
+_OF_GROUPS = {
+    "strict": f"{_EQUAL_PART} less than {_REACH}",
+    "weak": f"{_EQUAL_PART} no more than {_REACH}",
+    "little": "of groups of voters this says little: all voter budgets together are less than the limit",
+}
 
 
 class Row(NamedTuple):
@@ -28,6 +36,19 @@ def rows_of(found: Found, certificate: bytes) -> List[Row]:
     told = _Told(found, certificate)
     return [_row(each, _SENTENCES[each["name"]](told, each))
             for each in found["conditions" if found["kind"] == "prices" else "tests"]]
+
+
+def group_sentences(found: Found) -> List[str]:
+    """What a yes to prices says of groups of voters, and the one that comes nearest to that, where there is one. Of any other
+    answer there are none."""
+    said, nearest = found.get("groups"), found.get("nearest")
+    return [*([] if said is None else [_OF_GROUPS[said]]), *([] if nearest is None else [_nearest(nearest)])]
+
+
+def _nearest(group: Found) -> str:
+    cost, funded_for = (amount_text(group[name], MILLION) for name in ("cost", "funded_for"))
+    return (f"nearest to that comes project {group['project']}: the share of its {group['supporters']} supporters is "
+            f"{_share_text(group['share'])}, it costs {cost}, and {funded_for} was funded for them")
 
 
 def _row(each: Found, sentence: str) -> Row:
@@ -46,6 +67,11 @@ def amount_text(parts: Union[int, str], unit: int) -> str:
     if (rest * MILLION).denominator == 1:
         return f"{sign}{whole}.{f'{int(rest * MILLION):06}'.rstrip('0').ljust(2, '0')}"
     return sign + (f"{whole} {rest}" if whole else str(rest))
+
+
+def _share_text(share: Found) -> str:
+    """A share of the limit: millionths over the number of voters."""
+    return amount_text(share["numerator"], MILLION * share["denominator"])
 
 
 def _many(what: str, each: Found) -> str:
@@ -147,8 +173,8 @@ class _Told:
         share = test["share"]
         if share["denominator"] == 0:
             return "there are no voters"
-        part = amount_text(share["numerator"], MILLION * share["denominator"])
-        return f"the group's share of the limit is {part}; the demanded projects cost {amount_text(test['cost'], MILLION)}"
+        cost = amount_text(test["cost"], MILLION)
+        return f"the group's share of the limit is {_share_text(share)}; the demanded projects cost {cost}"
 
     def v4(self, test: Found) -> str:
         measure, first = self._found["measure"], test["first"]

@@ -294,8 +294,8 @@ class Audits(unittest.TestCase):
             pbaudit.explain(*reversed(files[:2]))
 
     def test_what_is_explained_of_groups(self):
-        """Behind the table of a yes, and apart from it: a line for each condition stands between two empty ones."""
-        text = b"supported priceable\n\nany line\n\ntake any voters: y\nnearest to that comes z\n"
+        """By the object alone, whatever is printed."""
+        text = b"supported priceable\n\nany line\n\nany other\n"
         sums = {"amount": "2500000", "bound": "3000000", "project": None, "voter": None}
         condition = {"asked": False, "culprits": 1, "first": None, "holds": False, "name": "Cover", "shown": sums}
         nearest = {"cost": "9000000", "funded_for": "4500000", "number": 3, "project": "z",
@@ -307,23 +307,49 @@ class Audits(unittest.TestCase):
             told = pbaudit.explain(b"", b"")
         sentence = "with --cover it fails: all voter budgets come to 2.50 together; the limit is 3.00"
         self.assertEqual(told.findings, (pbaudit.Finding("Cover", "not asked", sentence),))
-        self.assertEqual(told.groups, ("take any voters: y", "nearest to that comes z"))
+        self.assertEqual(told.groups, (
+            "take any voters who all approve an unfunded project: their equal part of the limit is no more than that "
+            "project's cost plus the cost of all funded projects that at least one of them approves",
+            "nearest to that comes project z: the share of its 1 supporters is 3 1/3, it costs 9.00, and 4.50 was funded for "
+            "them"))
         self.assertEqual(told.nearest, pbaudit.NearestGroup("z", 1, Fraction(10, 3), Fraction(9), Fraction(9, 2)))
         self.assertEqual(told.verdict.says_of_groups, "weak")
         self.assertEqual(str(told), text.decode())
 
     def test_sentences_are_those_of_the_table(self):
-        """Of all kinds of certificates, in the plain form and in another. The program pads names and states to columns."""
+        """Of all kinds of certificates, in the plain form and in another."""
         for names in (("district", "prices"), ("district", "short.prices"), ("school", "prices"), ("school", "refutation"),
                       ("district", "violation"), ("hall", "violation")):
             files = [EXAMPLES / f"{names[0]}.{end}" for end in ("pb", f"{names[1]}.csv")]
             for mode in ({}, {"stable": True, "exhaustive": False, "cover": True}):
                 with self.subTest(names=names, mode=mode):
                     told = pbaudit.explain(*files, **mode)
-                    rows = [f"{each.name:12}{each.state:11}{each.sentence}" for each in told.findings]
-                    parts = [str(told.verdict), "\n".join(rows), *(["\n".join(told.groups)] if told.groups else [])]
-                    self.assertEqual(str(told), "\n\n".join(parts) + "\n")
+                    self.check_sentences(told)
                     self.assertEqual(bool(told.groups), bool(told) and names[1].endswith("prices"))
+
+    def test_sentences_on_groups_are_those_behind_the_table(self):
+        """Each voter pays all of its budget of 10/3. With the limit at the budgets, and just above; and without a project
+        that isn't funded."""
+        a, b, c = (pbaudit.Project(name, cost) for name, cost in (("a", 6), ("b", 4), ("c", 9)))
+        paid = [{a: Fraction(8, 3), b: Fraction(2, 3)}, {a: Fraction(10, 3)}, {b: Fraction(10, 3)}]
+        prices, above = pbaudit.write_prices(Fraction(10, 3), paid), Fraction("10.000001")
+        for projects, limit, exhaustive, said in (
+            ([a, b, c], 10, True, "strict"), ([a, b, c], 10, False, "weak"), ([a, b, c], above, True, "little"),
+            ([a, b], 10, True, "strict"), ([a, b], 10, False, "weak"), ([a, b], above, True, "little"),
+        ):
+            with self.subTest(projects=len(projects), limit=limit, exhaustive=exhaustive):
+                town = pbaudit.write_election(pbaudit.Instance(projects, limit), [[a, b], [a], [b, *projects[2:]]], [a, b])
+                told = pbaudit.explain(town, prices, exhaustive=exhaustive)
+                self.check_sentences(told)
+                self.assertEqual(told.verdict.says_of_groups, said)
+                has_nearest = said != "little" and c in projects
+                self.assertEqual((len(told.groups), told.nearest is not None), (1 + has_nearest, has_nearest))
+
+    def check_sentences(self, told):
+        """They are those of the text. The program pads names and states to columns."""
+        rows = [f"{each.name:12}{each.state:11}{each.sentence}" for each in told.findings]
+        parts = [str(told.verdict), "\n".join(rows), *(["\n".join(told.groups)] if told.groups else [])]
+        self.assertEqual(str(told), "\n\n".join(parts) + "\n")
 
     def test_tidy(self):
         untidy = EXAMPLES / "sample.untidy.prices.csv"

@@ -72,7 +72,8 @@ class Answers(unittest.TestCase):
                 "readers_page.py": "the page for browsers, into which files are put", "spreadsheets.py": "cells of a table"}
     # How answers were taken out of lines, tables and pages before there were objects.
     GONE = ("facts_in", "project_in", "_GROUP_LINES", "_FAILED", "_culprit_in", "_counts_in", "_fault_in", "refusal_object",
-            r"split\(b?['\"]\\n\\n", r"\[:?12[:\]]", r"\[:?23[:\]]", r"b['\"]</?title", r"['\"]note: ['\"]",
+            r"split\(b?['\"]\\n\\n", r"\btext\b.*\.split(lines)?\(", r"\[:?12[:\]]", r"\[:?23[:\]]", r"b['\"]</?title",
+            r"['\"]note: ['\"]",
             r"\.(text|printed|line|stdout|stderr)\b.*\.(split|partition|startswith|removeprefix|splitlines|find|index)\(",
             r"(match|search|split|startswith|partition|removeprefix)\(r?b?f?['\"](read|refused|failed|supported|satisfied)")
 
