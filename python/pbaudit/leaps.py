@@ -14,7 +14,7 @@ class Unsure(Exception):
     """Rounded amounts leave a doubt."""
 
 
-class Town(Protocol):
+class ValuedElection(Protocol):
     """An election as the rule needs it: what each project costs, what it is worth, and who approves it."""
 
     @property
@@ -62,7 +62,7 @@ class Prices:
 class Between:
     """The rule for all budgets from one to another. Raises Unsure where it isn't sure that all of them buy the same."""
 
-    def __init__(self, rule: Town, low: Fraction, high: Fraction):
+    def __init__(self, rule: ValuedElection, low: Fraction, high: Fraction):
         self._rule = rule
         self._scale = least_multiple(amount.denominator for amount in (low, high, *rule.costs))
         self._low, self._high = ([int(budget * self._scale)] * rule.voters for budget in (low, high))

@@ -121,18 +121,18 @@ class Found(unittest.TestCase):
 
 
 @HAS_SCIPY
-class Decided(unittest.TestCase):
+class Solving(unittest.TestCase):
     def test_largest_budgets_and_weights(self):
         """In fractions: just where there are prices the largest budget, and else weights by which they are refuted."""
         from pbaudit.finding.clock import Clock
-        from pbaudit.finding.exactly import decided
+        from pbaudit.finding.exactly import solve
         from pbaudit.finding.shares import Need
         tally = collections.Counter()
         for case in (*small_cases(150), *far_cases(60)):
             problem = problem_of_case(case)
             for stable, cover in FORMS:
                 with self.subTest(case=case.name, stable=stable, cover=cover):
-                    found = decided(problem, Need(stable, cover), Clock(60))
+                    found = solve(problem, Need(stable, cover), Clock(60))
                     most = largest({"budget": 1}, conditions(case, stable))
                     self.assertEqual(found.payments is not None, has_prices(case, stable, cover))
                     if found.payments is not None:
@@ -150,11 +150,11 @@ class Decided(unittest.TestCase):
         from pbaudit.finding.programme import OutOfTime
         from pbaudit.finding.shares import Need
         over = problem_of_case(Case("over", [4, 5], 10, [[0, 1]] * 5 + [[1]] * 5, [1]))
-        self.assertIsNotNone(exactly.decided(over, Need(), Clock(60)))
+        self.assertIsNotNone(exactly.solve(over, Need(), Clock(60)))
         with self.assertRaises(OutOfTime):
-            exactly.decided(over, Need(), Clock(0))
+            exactly.solve(over, Need(), Clock(0))
         with mock.patch.object(exactly, "MOST_PAYMENTS", 1):
-            self.assertIsNone(exactly.decided(over, Need(), Clock(60)))
+            self.assertIsNone(exactly.solve(over, Need(), Clock(60)))
 
 
 def of_weights(case, weights):

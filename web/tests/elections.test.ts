@@ -5,7 +5,7 @@ import test from "node:test";
 import { amountIn, amountOf, commonDenominator } from "../src/elections/amounts.js";
 import { readElection, Unlike, withOutcome } from "../src/elections/election.js";
 import { COMMA, Records, SEMICOLON } from "../src/elections/records.js";
-import { bytes } from "./towns.js";
+import { bytes } from "./election_files.js";
 import type { Election } from "../src/elections/election.js";
 
 function recordsOf(text: string, separator = SEMICOLON): string[][] {

@@ -9,18 +9,18 @@ import { Decisions } from "../src/finding/deciding.js";
 import { Search } from "../src/finding/search.js";
 import { seek } from "../src/finding/seeking.js";
 import { problemOf } from "../src/finding/shares.js";
-import { ended, townFrom } from "./towns.js";
+import { decidedFrom, ended } from "./election_files.js";
+import type { DecidedElection } from "../src/finding/decided_election.js";
 import type { Measure } from "../src/finding/groups.js";
 import type { Sought } from "../src/finding/seeking.js";
-import type { Town } from "../src/finding/town.js";
 
 /** Limit 10; the park of 6 and the library of 4 are funded, the pool of 9 isn't. */
-const SAMPLE = townFrom([6, 4, 9], 10, ["0,1", "0", "1,2"], [0, 1]);
+const SAMPLE = decidedFrom([6, 4, 9], 10, ["0,1", "0", "1,2"], [0, 1]);
 /** Four of six voters want p0 and p1 of 2 each, and only p2 is funded, which two of the four want as well. */
-const PASSED_OVER = townFrom([2, 2, 6], 6, ["0,1", "0,1", "0,1,2", "0,1,2", "2", "2"], [2]);
+const PASSED_OVER = decidedFrom([2, 2, 6], 6, ["0,1", "0,1", "0,1,2", "0,1,2", "2", "2"], [2]);
 
-const searched = (town: Town, measure: Measure): ReturnType<Search["searched"]> =>
-  ended(new Search(town, measure).run());
+const searched = (decided: DecidedElection, measure: Measure): ReturnType<Search["searched"]> =>
+  ended(new Search(decided, measure).run());
 
 test("the figures of a group", () => {
   const { approving, share, cost, claims } = figuresOf(PASSED_OVER, [0, 1]);
@@ -34,7 +34,7 @@ test("the figures of a group", () => {
 
 test("a group whose share is what the demand costs is enough, and one millionth less isn't", () => {
   const costs = (cost: string): boolean =>
-    figuresOf(townFrom([cost, 1], 10, ["0", "0", "1"], [1]), [0]).claims.count.isViolation;
+    figuresOf(decidedFrom([cost, 1], 10, ["0", "0", "1"], [1]), [0]).claims.count.isViolation;
   assert.equal(costs("6.666666"), true);
   assert.equal(costs("6.666667"), false);
 });
@@ -42,7 +42,7 @@ test("a group whose share is what the demand costs is enough, and one millionth 
 test("nobody who approves all, and no project, is no violation", () => {
   assert.equal(figuresOf(SAMPLE, [0, 2]).claims.count.isViolation, false);
   assert.equal(figuresOf(SAMPLE, []).claims.count.isViolation, false);
-  assert.equal(figuresOf(townFrom([0], 0, [], []), [0]).claims.count.isViolation, false);
+  assert.equal(figuresOf(decidedFrom([0], 0, [], []), [0]).claims.count.isViolation, false);
 });
 
 test("the text of a violation", () => {
@@ -56,7 +56,7 @@ test("the smallest demand with the largest margin is found", () => {
   const { demand, tried } = searched(PASSED_OVER, "count");
   // By counting, the two who want only p0 and p1 have a share of 2, which each of them costs.
   assert.deepEqual([demand?.projects, [...demand?.voters ?? []], tried], [[0], [0, 1], 1]);
-  const pair = townFrom([1, 3, 3], 6, ["0,1,2", "0,1,2", "0,1,2", "0"], [0]);
+  const pair = decidedFrom([1, 3, 3], 6, ["0,1,2", "0,1,2", "0,1,2", "0"], [0]);
   assert.deepEqual(searched(pair, "count"), {
     demand: { projects: [0, 1], voters: Uint32Array.of(0, 1, 2) }, tried: 2, isAll: true,
   });
@@ -64,20 +64,20 @@ test("the smallest demand with the largest margin is found", () => {
 
 test("finding none says how many projects were tried", () => {
   assert.deepEqual(searched(SAMPLE, "count"), { demand: undefined, tried: 2, isAll: true });
-  const { demand, tried, isAll } = searched(townFrom([2, 1, 1], 4, ["0,1,2", "0,1,2"], [0, 1, 2]), "count");
+  const { demand, tried, isAll } = searched(decidedFrom([2, 1, 1], 4, ["0,1,2", "0,1,2"], [0, 1, 2]), "count");
   assert.deepEqual([demand, isAll], [undefined, true]);
   assert.equal(tried, 3);
 });
 
 /** By trying all sets: the fewest projects of a violation, and how many times the voters' number its group's share is
     over its cost, at most. */
-function smallest(town: Town, measure: Measure): [number, bigint] | undefined {
-  const voters = BigInt(town.ballots.starts.length - 1);
+function smallest(decided: DecidedElection, measure: Measure): [number, bigint] | undefined {
+  const voters = BigInt(decided.ballots.starts.length - 1);
   let best: [number, bigint] | undefined;
-  for (let set = 1; set < 2 ** town.ids.length; set++) {
-    const projects = town.ids.map((_, at) => at).filter(at => set >> at & 1);
-    const { claims, cost } = figuresOf(town, projects), { isViolation, voters: group } = claims[measure];
-    const over = BigInt(group.length) * town.limit - cost * voters;
+  for (let set = 1; set < 2 ** decided.ids.length; set++) {
+    const projects = decided.ids.map((_, at) => at).filter(at => set >> at & 1);
+    const { claims, cost } = figuresOf(decided, projects), { isViolation, voters: group } = claims[measure];
+    const over = BigInt(group.length) * decided.limit - cost * voters;
     if (!isViolation || best && projects.length > best[0]) continue;
     if (!best || projects.length < best[0] || over > best[1]) best = [projects.length, over];
   }
@@ -93,7 +93,7 @@ function chanceFrom(seed: number): (below: number) => number {
   };
 }
 
-function invented(seed: number): Town {
+function invented(seed: number): DecidedElection {
   const chance = chanceFrom(seed), count = 4 + chance(4), voters = 5 + chance(8);
   const costs = Array.from({ length: count }, () => 1 + chance(9)), limit = 4 + chance(16);
   const ballots = Array.from({ length: voters }, () => costs.map((_, at) => at).filter(() => chance(10) < 6).join(","));
@@ -104,23 +104,23 @@ function invented(seed: number): Town {
     funded.push(at);
     left -= cost;
   });
-  return townFrom(costs, limit, ballots, funded);
+  return decidedFrom(costs, limit, ballots, funded);
 }
 
 test("what is found is what trying all sets finds", () => {
   const sizes = new Set<string>();
   for (let seed = 1; seed <= 400; seed++) {
-    const town = invented(seed);
+    const decided = invented(seed);
     for (const measure of ["count", "cost"] as const) {
-      const wanted = smallest(town, measure), { demand, isAll } = searched(town, measure), what = `${measure} ${seed}`;
+      const wanted = smallest(decided, measure), { demand, isAll } = searched(decided, measure), what = `${measure} ${seed}`;
       if (wanted && wanted[0] > 6) continue;
       assert.equal(demand === undefined, wanted === undefined, what);
       if (!demand || !wanted) {
-        assert(isAll || town.ids.length > 6, what);
+        assert(isAll || decided.ids.length > 6, what);
         continue;
       }
-      const { claims, cost } = figuresOf(town, demand.projects);
-      const over = BigInt(demand.voters.length) * town.limit - cost * BigInt(town.ballots.starts.length - 1);
+      const { claims, cost } = figuresOf(decided, demand.projects);
+      const over = BigInt(demand.voters.length) * decided.limit - cost * BigInt(decided.ballots.starts.length - 1);
       assert.deepEqual([demand.projects.length, over, claims[measure].isViolation], [...wanted, true], what);
       sizes.add(`${measure} ${wanted[0]}`);
     }
@@ -129,52 +129,52 @@ test("what is found is what trying all sets finds", () => {
 });
 
 test("a group whose share was enough gives a refutation", () => {
-  const town = townFrom([2, 3], 10, ["0,1", "0,1", "0,1", "0", ""], [0]);
-  const refutation = refutationOf(town, { voters: Uint32Array.of(0, 1, 2), projects: [1] });
+  const decided = decidedFrom([2, 3], 10, ["0,1", "0,1", "0,1", "0", ""], [0]);
+  const refutation = refutationOf(decided, { voters: Uint32Array.of(0, 1, 2), projects: [1] });
   assert(refutation);
   const text = "pb-refutation,1\ncover,3\nrole,project,weight\nleft,p1,5\nmost,p0,5\n";
-  assert.equal(refutationText(town, refutation.cover, refutation.weights), text);
+  assert.equal(refutationText(decided, refutation.cover, refutation.weights), text);
   // The share of the three has to cover p1 and what was funded for them, 5 together: 3 of 5 of the limit.
   const limit = (amount: number): unknown =>
-    refutationOf(townFrom([2, 3], amount, ["0,1", "0,1", "0,1", "0", ""], [0]),
+    refutationOf(decidedFrom([2, 3], amount, ["0,1", "0,1", "0,1", "0", ""], [0]),
                  { voters: Uint32Array.of(0, 1, 2), projects: [1] });
   assert(limit(8.333334));
   assert.equal(limit(8.333333), undefined);
-  assert.equal(refutationOf(town, { voters: Uint32Array.of(0), projects: [0] }), undefined);
+  assert.equal(refutationOf(decided, { voters: Uint32Array.of(0), projects: [0] }), undefined);
 });
 
 test("what room the outcome leaves", () => {
   assert.deepEqual(roomOf(SAMPLE), { isFeasible: true, addable: undefined });
-  assert.deepEqual(roomOf(townFrom([6, 4], 10, ["0"], [0])), { isFeasible: true, addable: 1 });
-  assert.deepEqual(roomOf(townFrom([6, 4], 9, ["0"], [0, 1])), { isFeasible: false, addable: undefined });
+  assert.deepEqual(roomOf(decidedFrom([6, 4], 10, ["0"], [0])), { isFeasible: true, addable: 1 });
+  assert.deepEqual(roomOf(decidedFrom([6, 4], 9, ["0"], [0, 1])), { isFeasible: false, addable: undefined });
 });
 
-const prices = (town: Town, stable = false, cover = false): Sought =>
-  ended(seek(new Decisions(problemOf(town, cohortsOf(town.ballots))), "prices", { stable, cover }));
+const prices = (decided: DecidedElection, stable = false, cover = false): Sought =>
+  ended(seek(new Decisions(problemOf(decided, cohortsOf(decided.ballots))), "prices", { stable, cover }));
 
 test("prices of an election in which one project has one price", () => {
   // Each of the two supporters of p0 pays 2, and has nothing left for p1.
-  const found = prices(townFrom([4, 9], 6, ["0", "0,1", "1"], [0]));
+  const found = prices(decidedFrom([4, 9], 6, ["0", "0,1", "1"], [0]));
   assert(found.says === "found" && found.cover);
   const text = "pb-prices,1\ndenominator,100\nvoter_budget,201\nvoter,project,payment\n1,p0,200\n2,p0,200\n";
   assert.deepEqual(found.pieces.map(piece => new TextDecoder().decode(piece)), [text]);
 });
 
 test("where there can be no prices, it says why", () => {
-  assert.deepEqual(prices(townFrom([6, 4], 9, ["0,1"], [0, 1])), { says: "infeasible" });
-  const unpaid = prices(townFrom([6, 4], 10, ["0"], [0, 1]));
+  assert.deepEqual(prices(decidedFrom([6, 4], 9, ["0,1"], [0, 1])), { says: "infeasible" });
+  const unpaid = prices(decidedFrom([6, 4], 10, ["0"], [0, 1]));
   assert(unpaid.says === "unpaid" && unpaid.project === 1);
   assert.deepEqual(unpaid.refutation.weights, [{ role: "least", project: 1, weight: 1 }]);
   // The supporter of p0 has to have a budget of 4, so that those of p1 have 8 left, which costs 5.
-  const rich = townFrom([4, 5], 6, ["0", "1", "1"], [0]);
+  const rich = decidedFrom([4, 5], 6, ["0", "1", "1"], [0]);
   assert.deepEqual(prices(rich), { says: "none" });
   // Budgets of 1 each are enough here, but together they aren't more than the limit.
-  const poor = townFrom([1, 5], 10, ["1", "1", "0"], [0]);
+  const poor = decidedFrom([1, 5], 10, ["1", "1", "0"], [0]);
   assert.deepEqual(prices(poor, false, true), { says: "none" });
   assert.equal((prices(poor) as { cover?: boolean }).cover, false);
 });
 
 test("an outcome of nothing, and an election of nobody", () => {
-  assert.equal(prices(townFrom([5], 4, ["0"], [])).says, "found");
-  assert.equal(prices(townFrom([5], 4, [], [])).says, "found");
+  assert.equal(prices(decidedFrom([5], 4, ["0"], [])).says, "found");
+  assert.equal(prices(decidedFrom([5], 4, [], [])).says, "found");
 });

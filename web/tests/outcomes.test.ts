@@ -6,12 +6,12 @@ import { outcomesOf, outcomeText, rangesFor, shownSpread, widthFor } from "../sr
 import { Electorate } from "../src/comparing/rule.js";
 import { MILLION } from "../src/elections/amounts.js";
 import { cohortsOf } from "../src/finding/cohorts.js";
-import { ended, townFrom } from "./towns.js";
+import { decidedFrom, ended } from "./election_files.js";
 
 test("the outcome that was asked about, most votes first, and Equal Shares by cost and by number", () => {
   // The row "what counts" of tests/tables/shares.json: p0 costs 8 and all four want it, p1 costs 2 and two of them do.
-  const town = townFrom([8, 2], 10, ["0,1", "0,1", "0", "0"], [1]);
-  const { outcomes, width } = ended(outcomesOf(new Electorate(town, cohortsOf(town.ballots)), "none"));
+  const decided = decidedFrom([8, 2], 10, ["0,1", "0,1", "0", "0"], [1]);
+  const { outcomes, width } = ended(outcomesOf(new Electorate(decided, cohortsOf(decided.ballots)), "none"));
   assert.deepEqual(outcomes.map(({ rule, funded }) => [rule, funded]),
                    [["own", [1]], ["votes", [0, 1]], ["cost", [0]], ["count", [0, 1]]]);
   assert.deepEqual(outcomes.map(({ cost }) => cost / MILLION), [2n, 10n, 8n, 10n]);

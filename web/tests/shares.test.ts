@@ -12,8 +12,8 @@ import { gotOf } from "../src/comparing/got.js";
 import { MILLION } from "../src/elections/amounts.js";
 import { readElection } from "../src/elections/election.js";
 import { cohortsOf } from "../src/finding/cohorts.js";
-import { townOf } from "../src/finding/town.js";
-import { bytes, ended } from "./towns.js";
+import { decidedOf } from "../src/finding/decided_election.js";
+import { bytes, ended } from "./election_files.js";
 import type { Completion } from "../src/comparing/shares.js";
 
 interface Row {
@@ -37,13 +37,13 @@ function electorateOf({ limit, projects, ballots }: Pick<Row, "limit" | "project
     ...projects.map(([id, cost]) => `${id};${cost}`), "VOTES", "voter_id;vote",
     ...ballots.map((ballot, at) => `${at};${ballot.join()}`), "",
   ].join("\n");
-  const town = townOf(readElection(bytes(text)));
-  return new Electorate(town, cohortsOf(town.ballots));
+  const decided = decidedOf(readElection(bytes(text)));
+  return new Electorate(decided, cohortsOf(decided.ballots));
 }
 
 for (const row of rows) {
   test(`${row.name}, by ${row.by}, ${row.completion}`, () => {
-    const electorate = electorateOf(row), { ids } = electorate.town;
+    const electorate = electorateOf(row), { ids } = electorate.decided;
     const { funded, budget, runs } = ended(equalShares(electorate, row.by, row.completion));
     assert.deepEqual(funded.map(project => ids[project]), row.funded);
     const [part, whole = "1"] = row.budget.split("/");
@@ -79,7 +79,7 @@ test("most votes first, of those that fit", () => {
   assert(stated.length >= 8);
   for (const row of stated) {
     const electorate = electorateOf(row);
-    const names = byVotes(electorate).map(project => electorate.town.ids[project]);
+    const names = byVotes(electorate).map(project => electorate.decided.ids[project]);
     assert.deepEqual(names, row.most_votes, row.name);
   }
 });

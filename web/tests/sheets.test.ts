@@ -7,7 +7,7 @@ import { MOST_TOLD } from "../src/sheets/faults.js";
 import { electionName, electionText, limitFault, placeOfProjects, readSheets } from "../src/sheets/election.js";
 import { faultIn } from "../src/sheets/sentences.js";
 import { wordsOf } from "../src/words/languages.js";
-import { bytes } from "./towns.js";
+import { bytes } from "./election_files.js";
 import type { Fault } from "../src/sheets/faults.js";
 
 const NAMES = { projects: "projects.csv", ballots: "ballots.csv" };

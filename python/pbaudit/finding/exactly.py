@@ -31,7 +31,7 @@ Row = Dict[int, Fraction]
 
 
 @dataclass(frozen=True)
-class Decided:
+class Solved:
     """The largest budget of a voter, with payments of each voter by the ids of projects; or weights that refute."""
 
     budget: Optional[Fraction] = None
@@ -147,19 +147,19 @@ class Programme:
             # Any budget will do that is large enough.
             self.rows.append(({self.BUDGET: Fraction(1)}, 1 + self._problem.decided.limit))
 
-    def payments(self, solved: Simplex) -> List[Dict[str, Fraction]]:
+    def payments(self, simplex: Simplex) -> List[Dict[str, Fraction]]:
         """What each voter pays, by the ids of projects."""
         by_group: List[Dict[str, Fraction]] = [{} for _ in self._ballots]
         for (group, at), name in self.pays.items():
-            if solved.value(name):
-                by_group[group][self._problem.decided.names[at]] = solved.value(name)
+            if simplex.value(name):
+                by_group[group][self._problem.decided.names[at]] = simplex.value(name)
         return [by_group[group] for group in self._problem.groups.of_voter.tolist()]
 
-    def weights(self, solved: Simplex, cover: Fraction) -> Iterator[Whole]:
+    def weights(self, simplex: Simplex, cover: Fraction) -> Iterator[Whole]:
         """Whole weights by the multipliers that refute."""
-        funded = [solved.multiplier(self.paid + 2 * at + 1) - solved.multiplier(self.paid + 2 * at)
+        funded = [simplex.multiplier(self.paid + 2 * at + 1) - simplex.multiplier(self.paid + 2 * at)
                   for at in range(len(self._problem.funded))]
-        unfunded = [solved.multiplier(self.owed + at) for at in range(len(self._problem.unfunded))]
+        unfunded = [simplex.multiplier(self.owed + at) for at in range(len(self._problem.unfunded))]
         part, voters = lcm(*(each.denominator for each in (*funded, *unfunded, cover))), Voters(self._problem, self._stable)
         # X(i) is whole.
         for more in BESIDES:
@@ -171,33 +171,33 @@ class Programme:
                 yield whole_of(self._problem, voters, weights)
 
 
-def decided(problem: Problem, need: Need, clock: Clock) -> Optional[Decided]:
+def solve(problem: Problem, need: Need, clock: Clock) -> Optional[Solved]:
     """Prices with the largest voter budget, or if there is none with a large one, or weights that refute all such prices;
     None where there are too many payments, or no whole weights. Raises OutOfTime."""
     if max(len(problem.groups), problem.groups.approvals[:, problem.funded].nnz) > MOST_PAYMENTS:
         return None
     clock.tell(f"{need}: in fractions")
     programme = Programme(problem, need.stable)
-    solved, cover = Simplex(programme.rows, programme.count, clock), Fraction(0)
-    if solved.satisfy():
-        budget = solved.most(Programme.BUDGET)
+    simplex, cover = Simplex(programme.rows, programme.count, clock), Fraction(0)
+    if simplex.satisfy():
+        budget = simplex.most(Programme.BUDGET)
         if not need.cover or budget * len(problem.decided.ballots) > problem.decided.limit:
-            return Decided(budget, programme.payments(solved))
+            return Solved(budget, programme.payments(simplex))
         cover = Fraction(1, len(problem.decided.ballots))
-    whole = next(programme.weights(solved, cover), None)
-    return None if whole is None else Decided(weights=whole)
+    whole = next(programme.weights(simplex, cover), None)
+    return None if whole is None else Solved(weights=whole)
 
 
 def find_exactly(given: Given, wanted: Wanted, clock: Clock) -> Union[FoundPrices, FoundRefutation, None]:
     """Prices of the kind that is wanted, or a refutation of them, and of all prices if it can be; or None."""
     need = Need(wanted.stable, wanted.cover)
     try:
-        own = decided(given.problem, need, clock)
+        own = solve(given.problem, need, clock)
         if own is not None and own.payments is not None:
             found = rounded(given, Payments(own.payments), own.budget, None, need, clock) if wanted.prices else None
             return found and also_with_cover(given, found)
         for each in (replace(need, stable=False), need) if own is not None and wanted.refutation else ():
-            more = own if each == need else decided(given.problem, each, clock)
+            more = own if each == need else solve(given.problem, each, clock)
             refutation = more and more.weights and audited(given, more.weights, each)
             if refutation:
                 return refutation

@@ -29,14 +29,14 @@ function spreadOf(counts: ReadonlyMap<bigint, number>, voters: number): Spread {
   return { all, least: all[0]?.amount ?? 0n, middle, most: all[all.length - 1]?.amount ?? 0n };
 }
 
-export function gotOf({ town, cohorts, voters }: Electorate, funded: Iterable<number>): Record<Measure, Spread> {
+export function gotOf({ decided, cohorts, voters }: Electorate, funded: Iterable<number>): Record<Measure, Spread> {
   const { first, sizes, ballots: { starts, places } } = cohorts, isFunded = new Set(funded);
   const counts = { cost: new Map<bigint, number>(), count: new Map<bigint, number>() };
   first.forEach((voter, cohort) => {
     let cost = 0n, count = 0n;
     for (let at = starts[voter]; at < starts[voter + 1]; at++) {
       if (!isFunded.has(places[at])) continue;
-      cost += town.costs[places[at]];
+      cost += decided.costs[places[at]];
       count++;
     }
     const got = { cost, count };

@@ -41,7 +41,7 @@ class Between {
     const cohorts = electorate.cohorts.first.length;
     this.scale = BigInt(Math.max(1, electorate.voters));
     [this.low, this.high] = [low, high].map(budget => new Array<bigint>(cohorts).fill(budget));
-    electorate.town.costs.forEach((cost, project) => {
+    electorate.decided.costs.forEach((cost, project) => {
       const votes = BigInt(electorate.votes[project]);
       if (cost > 0n && votes > 0n) this.bounds.set(project, { part: cost, whole: votes * worthOf(measure, cost) });
     });
@@ -93,7 +93,7 @@ class Between {
   }
 
   private prices(project: number): Prices | undefined {
-    const { supporters, cohorts: { sizes }, town } = this.electorate, cost = town.costs[project];
+    const { supporters, cohorts: { sizes }, decided } = this.electorate, cost = decided.costs[project];
     const [cheap, dear] = [this.high, this.low].map(lefts => {
       const purses: Purse[] = [];
       for (const cohort of supporters[project]) {

@@ -3,7 +3,7 @@
 
 import { MILLION } from "../elections/amounts.js";
 import { fieldOf } from "../finding/certificates.js";
-import { costOf, placesWhere } from "../finding/town.js";
+import { costOf, placesWhere } from "../finding/decided_election.js";
 import { gotOf } from "./got.js";
 import { byVotes } from "./rule.js";
 import { equalShares } from "./shares.js";
@@ -63,8 +63,8 @@ export function shownSpread({ all, least, middle }: Spread, width: bigint, range
 }
 
 export function* outcomesOf(electorate: Electorate, completion: Completion): Generator<OutcomesStep, Outcomes> {
-  const { town } = electorate, funded: [RuleName, readonly number[]][] = [
-    ["own", placesWhere(town, place => town.isFunded[place])], ["votes", byVotes(electorate)],
+  const { decided } = electorate, funded: [RuleName, readonly number[]][] = [
+    ["own", placesWhere(decided, place => decided.isFunded[place])], ["votes", byVotes(electorate)],
   ];
   for (const rule of ["cost", "count"] as const) {
     const steps = equalShares(electorate, rule, completion);
@@ -76,7 +76,7 @@ export function* outcomesOf(electorate: Electorate, completion: Completion): Gen
   const most = spreads.reduce((largest, spread) => spread.most > largest ? spread.most : largest, 0n);
   const width = widthFor(most), ranges = rangesFor(most, width);
   const outcomes = funded.map(([rule, projects], at): RuleOutcome => ({
-    rule, funded: [...projects].sort((one, other) => one - other), cost: costOf(town, projects),
+    rule, funded: [...projects].sort((one, other) => one - other), cost: costOf(decided, projects),
     got: shownSpread(spreads[at], width, ranges),
   }));
   return { outcomes, width };

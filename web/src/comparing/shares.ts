@@ -60,7 +60,7 @@ class Run {
 
   constructor(private readonly electorate: Electorate, private readonly measure: Measure, budget: bigint) {
     this.purses = new Purses(electorate.cohorts.sizes, budget, BigInt(Math.max(1, electorate.voters)));
-    electorate.town.costs.forEach((cost, project) => {
+    electorate.decided.costs.forEach((cost, project) => {
       const votes = BigInt(electorate.votes[project]);
       if (votes === 0n) return;
       if (cost === 0n) this.bought.push(project);
@@ -89,13 +89,13 @@ class Run {
   }
 
   private price(project: number, { missing, payers }: Shared): Price {
-    const worth = worthOf(this.measure, this.electorate.town.costs[project]);
+    const worth = worthOf(this.measure, this.electorate.decided.costs[project]);
     return { part: missing, whole: BigInt(payers) * worth * this.purses.scale, project };
   }
 
   private shared(project: number): Shared | undefined {
-    const { supporters, town } = this.electorate;
-    return this.purses.shared(supporters[project], town.costs[project] * this.purses.scale);
+    const { supporters, decided } = this.electorate;
+    return this.purses.shared(supporters[project], decided.costs[project] * this.purses.scale);
   }
 
   private buy(project: number, found: Shared): void {
@@ -120,7 +120,7 @@ function* fundedBy(electorate: Electorate, measure: Measure, budget: bigint, run
  */
 export function* equalShares(electorate: Electorate, measure: Measure, completion: Completion):
     Generator<SharesStep, EqualShares> {
-  const { limit } = electorate.town, step = STEP * BigInt(Math.max(1, electorate.voters)), leap = new Leap();
+  const { limit } = electorate.decided, step = STEP * BigInt(Math.max(1, electorate.voters)), leap = new Leap();
   let budget = limit, runs = 1, funded = yield* fundedBy(electorate, measure, budget, 1), isLate = false;
   while (completion === "add1" && electorate.hasRoom(new Set(funded))) {
     if (leap.steps > 1) {

@@ -1,7 +1,7 @@
 /* The texts of certificates (docs/FORMATS.md). They are claims, and the auditor's to check. */
 
+import type { DecidedElection } from "./decided_election.js";
 import type { Measure } from "./groups.js";
-import type { Town } from "./town.js";
 
 /** An id as a field of a file. */
 export const fieldOf = (id: string): string => /[",]/.test(id) ? `"${id.replaceAll('"', '""')}"` : id;
@@ -14,11 +14,11 @@ export interface Demand {
   readonly projects: readonly number[];
 }
 
-export function violationText(town: Town, measure: Measure, { voters, projects }: Demand): string {
+export function violationText(decided: DecidedElection, measure: Measure, { voters, projects }: Demand): string {
   return linesOf([
     "pb-violation,2", `satisfaction,${measure}`,
     ...Array.from(voters, voter => `voter,${voter + 1}`),
-    ...projects.map(project => `project,${fieldOf(town.ids[project])}`),
+    ...projects.map(project => `project,${fieldOf(decided.ids[project])}`),
   ]);
 }
 
@@ -33,7 +33,7 @@ export interface Weight {
   readonly weight: number;
 }
 
-export const refutationText = (town: Town, cover: number, weights: readonly Weight[]): string => linesOf([
+export const refutationText = (decided: DecidedElection, cover: number, weights: readonly Weight[]): string => linesOf([
   "pb-refutation,1", `cover,${cover}`, "role,project,weight",
-  ...weights.map(({ role, project, weight }) => `${role},${fieldOf(town.ids[project])},${weight}`),
+  ...weights.map(({ role, project, weight }) => `${role},${fieldOf(decided.ids[project])},${weight}`),
 ]);

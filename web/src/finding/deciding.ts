@@ -5,7 +5,7 @@ import { Interior, Stuck } from "./interior.js";
 import { byProgramme } from "./programme.js";
 import { budgetsOf, largest } from "./shares.js";
 import { owedBy, scaled, Voters, worthOf } from "./voters.js";
-import { byWater } from "./water.js";
+import { byWaterFilling } from "./water_filling.js";
 import type { Solved } from "./programme.js";
 import type { Need, Problem, Shares } from "./shares.js";
 import type { Weights } from "./voters.js";
@@ -38,7 +38,7 @@ const suits = ({ unfunded, costs }: Problem): boolean => unfunded.length > 0 && 
 
 /** How far a search is: by which method it looks for which prices, and the number of its round or step. */
 export interface Progress extends Need {
-  readonly by: "water" | "interior" | "programme" | "whole";
+  readonly by: "waterFilling" | "interior" | "programme" | "whole";
   readonly count: number;
 }
 
@@ -67,8 +67,8 @@ export class Decisions {
   }
 
   /** Prices by water-filling. */
-  *byWater(need: Need): Generator<Progress, Shares | undefined> {
-    const shares = yield* told("water", need, byWater(this.problem, need));
+  *byWaterFilling(need: Need): Generator<Progress, Shares | undefined> {
+    const shares = yield* told("waterFilling", need, byWaterFilling(this.problem, need));
     if (shares) this.decided.push({ need, isPriced: true });
     return shares;
   }

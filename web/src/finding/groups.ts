@@ -1,8 +1,8 @@
 /* Groups of voters who all approve some projects: what they could demand, and what they get. */
 
-import { costOf, votersIn } from "./town.js";
+import { costOf, votersIn } from "./decided_election.js";
 import type { Demand, Weight } from "./certificates.js";
-import type { Town } from "./town.js";
+import type { DecidedElection } from "./decided_election.js";
 
 /** How what a voter gets is counted: funded projects on the ballot, or what these cost. */
 export type Measure = "count" | "cost";
@@ -32,7 +32,7 @@ export interface Figures {
 }
 
 /** The voters who approve all of these projects. */
-function approvingAll({ ballots: { starts, places }, ids }: Town, projects: readonly number[]): Uint32Array {
+function approvingAll({ ballots: { starts, places }, ids }: DecidedElection, projects: readonly number[]): Uint32Array {
   const isWanted = new Uint8Array(ids.length), voters: number[] = [];
   for (const project of projects) isWanted[project] = 1;
   for (let voter = 0; voter + 1 < starts.length; voter++) {
@@ -44,62 +44,62 @@ function approvingAll({ ballots: { starts, places }, ids }: Town, projects: read
 }
 
 /** What a project is worth to one who approves it, if it is funded. */
-const worthOf = (town: Town, measure: Measure, project: number): bigint =>
-  measure === "count" ? 1n : town.costs[project];
+const worthOf = (decided: DecidedElection, measure: Measure, project: number): bigint =>
+  measure === "count" ? 1n : decided.costs[project];
 
-function gotBy(town: Town, measure: Measure, voter: number): bigint {
-  const { starts, places } = town.ballots;
+function gotBy(decided: DecidedElection, measure: Measure, voter: number): bigint {
+  const { starts, places } = decided.ballots;
   let got = 0n;
   for (let at = starts[voter]; at < starts[voter + 1]; at++) {
-    if (town.isFunded[places[at]]) got += worthOf(town, measure, places[at]);
+    if (decided.isFunded[places[at]]) got += worthOf(decided, measure, places[at]);
   }
   return got;
 }
 
 /** What so many voters have of the limit, rounded down. */
-const shareOf = (town: Town, voters: number): bigint =>
-  votersIn(town) ? town.limit * BigInt(voters) / BigInt(votersIn(town)) : 0n;
+const shareOf = (decided: DecidedElection, voters: number): bigint =>
+  votersIn(decided) ? decided.limit * BigInt(voters) / BigInt(votersIn(decided)) : 0n;
 
 /** Whether the share of so many voters covers a cost, exactly. */
-export const covers = (town: Town, voters: number, cost: bigint): boolean =>
-  town.limit * BigInt(voters) >= cost * BigInt(votersIn(town));
+export const covers = (decided: DecidedElection, voters: number, cost: bigint): boolean =>
+  decided.limit * BigInt(voters) >= cost * BigInt(votersIn(decided));
 
-function claimOf(town: Town, measure: Measure, projects: readonly number[], approving: Uint32Array): Claim {
-  const worth = projects.reduce((sum, project) => sum + worthOf(town, measure, project), 0n), voters: number[] = [];
+function claimOf(decided: DecidedElection, measure: Measure, projects: readonly number[], approving: Uint32Array): Claim {
+  const worth = projects.reduce((sum, project) => sum + worthOf(decided, measure, project), 0n), voters: number[] = [];
   let least = worth, most = 0n;
   for (const voter of approving) {
-    const got = gotBy(town, measure, voter);
+    const got = gotBy(decided, measure, voter);
     if (got >= worth) continue;
     voters.push(voter);
     if (got < least) least = got;
     if (got > most) most = got;
   }
   return {
-    voters: Uint32Array.from(voters), share: shareOf(town, voters.length), least: voters.length ? least : 0n, most,
-    isViolation: voters.length > 0 && covers(town, voters.length, costOf(town, projects)),
+    voters: Uint32Array.from(voters), share: shareOf(decided, voters.length), least: voters.length ? least : 0n, most,
+    isViolation: voters.length > 0 && covers(decided, voters.length, costOf(decided, projects)),
   };
 }
 
 /** The figures of some projects, each once. */
-export function figuresOf(town: Town, projects: readonly number[]): Figures {
-  const approving = projects.length ? approvingAll(town, projects) : new Uint32Array();
+export function figuresOf(decided: DecidedElection, projects: readonly number[]): Figures {
+  const approving = projects.length ? approvingAll(decided, projects) : new Uint32Array();
   return {
-    projects, cost: costOf(town, projects), approving: approving.length, share: shareOf(town, approving.length),
+    projects, cost: costOf(decided, projects), approving: approving.length, share: shareOf(decided, approving.length),
     claims: {
-      count: claimOf(town, "count", projects, approving), cost: claimOf(town, "cost", projects, approving),
+      count: claimOf(decided, "count", projects, approving), cost: claimOf(decided, "cost", projects, approving),
     },
   };
 }
 
 /** The voters whose claim is made: those who get less than some projects are worth, or where there are none, all who
     approve these. */
-export function claimantsOf(town: Town, measure: Measure, projects: readonly number[]): Uint32Array {
-  const { voters } = figuresOf(town, projects).claims[measure];
-  return voters.length ? voters : approvingAll(town, projects);
+export function claimantsOf(decided: DecidedElection, measure: Measure, projects: readonly number[]): Uint32Array {
+  const { voters } = figuresOf(decided, projects).claims[measure];
+  return voters.length ? voters : approvingAll(decided, projects);
 }
 
 /** The funded projects that some voter of a group approves. */
-function reachOf({ ballots: { starts, places }, isFunded }: Town, voters: Uint32Array): number[] {
+function reachOf({ ballots: { starts, places }, isFunded }: DecidedElection, voters: Uint32Array): number[] {
   const reached = new Set<number>();
   for (const voter of voters) {
     for (let at = starts[voter]; at < starts[voter + 1]; at++) {
@@ -119,11 +119,11 @@ export interface Refutation {
  * The refutation that a group gives whose share was enough: it covers an unfunded project that all of it approve,
  * and all that was funded for any of them, together. Undefined where the group isn't so.
  */
-export function refutationOf(town: Town, { voters, projects }: Demand): Refutation | undefined {
-  const reach = reachOf(town, voters), reached = costOf(town, reach), members = voters.length;
-  const project = projects.find(each => !town.isFunded[each] && covers(town, members, town.costs[each] + reached));
+export function refutationOf(decided: DecidedElection, { voters, projects }: Demand): Refutation | undefined {
+  const reach = reachOf(decided, voters), reached = costOf(decided, reach), members = voters.length;
+  const project = projects.find(each => !decided.isFunded[each] && covers(decided, members, decided.costs[each] + reached));
   if (project === undefined || !members) return undefined;
-  const weight = votersIn(town), bought: Weight[] = reach.map(each => ({ role: "most", project: each, weight }));
+  const weight = votersIn(decided), bought: Weight[] = reach.map(each => ({ role: "most", project: each, weight }));
   return { cover: members, weights: [{ role: "left", project, weight }, ...bought] };
 }
 
@@ -132,8 +132,8 @@ export const unpaidRefutation = (project: number): Refutation =>
   ({ cover: 0, weights: [{ role: "least", project, weight: 1 }] });
 
 /** Whether the outcome costs more than the limit, and the first unfunded project that could be added within it. */
-export function roomOf(town: Town): { isFeasible: boolean; addable: number | undefined } {
-  const funded = town.costs.reduce((sum, cost, at) => town.isFunded[at] ? sum + cost : sum, 0n);
-  const at = town.costs.findIndex((cost, place) => !town.isFunded[place] && funded + cost <= town.limit);
-  return { isFeasible: funded <= town.limit, addable: at < 0 ? undefined : at };
+export function roomOf(decided: DecidedElection): { isFeasible: boolean; addable: number | undefined } {
+  const funded = decided.costs.reduce((sum, cost, at) => decided.isFunded[at] ? sum + cost : sum, 0n);
+  const at = decided.costs.findIndex((cost, place) => !decided.isFunded[place] && funded + cost <= decided.limit);
+  return { isFeasible: funded <= decided.limit, addable: at < 0 ? undefined : at };
 }

@@ -3,8 +3,8 @@
 
 import { commonDenominator } from "../elections/amounts.js";
 import { fieldOf, pricesHead } from "./certificates.js";
+import { votersIn } from "./decided_election.js";
 import { wholeBy } from "./rounding.js";
-import { votersIn } from "./town.js";
 import type { Decisions, Progress } from "./deciding.js";
 import type { Exact } from "./programme.js";
 import type { Whole } from "./rounding.js";
@@ -22,8 +22,8 @@ export interface FoundPrices {
 }
 
 /** The denominators to try: multiples near round numbers by which what is funded costs whole numbers. */
-function denominatorsFor({ town, funded }: Problem): number[] {
-  const unit = commonDenominator(funded.map(project => town.costs[project]));
+function denominatorsFor({ decided, funded }: Problem): number[] {
+  const unit = commonDenominator(funded.map(project => decided.costs[project]));
   return DENOMINATORS.map(wanted => Math.min(Math.ceil(wanted / unit), Math.floor(MOST_DENOMINATOR / unit)) * unit);
 }
 
@@ -31,7 +31,7 @@ function denominatorsFor({ town, funded }: Problem): number[] {
 export function* findPrices(decisions: Decisions, wanted: Need): Generator<Progress, FoundPrices | undefined> {
   const { problem } = decisions;
   // Nobody's budgets aren't more than any limit.
-  const covers = [...votersIn(problem.town) ? [true] : [], ...wanted.cover ? [] : [false]];
+  const covers = [...votersIn(problem.decided) ? [true] : [], ...wanted.cover ? [] : [false]];
   for (const cover of covers) {
     const exact = yield* exactPrices(decisions, { ...wanted, cover });
     if (exact) return { cover, pieces: [...piecesOf(problem, exact)] };
@@ -43,7 +43,7 @@ export function* findPrices(decisions: Decisions, wanted: Need): Generator<Progr
 function* exactPrices(decisions: Decisions, need: Need): Generator<Progress, Exact | undefined> {
   const { problem } = decisions;
   if (decisions.known(need)?.weights) return undefined;
-  const water = yield* decisions.byWater(need), found = water && exactBy(problem, water, need);
+  const filled = yield* decisions.byWaterFilling(need), found = filled && exactBy(problem, filled, need);
   if (found) return found;
   const { shares } = yield* decisions.byInterior(need), exact = shares && exactBy(problem, shares, need);
   if (exact) return exact;
@@ -89,9 +89,9 @@ function byCohort({ cohorts: { sizes } }: Problem, payers: Payers, { numerators 
  * project, so that no two of them spend more than one numerator apart.
  */
 function* piecesOf(problem: Problem, { payers, whole }: Exact): Generator<Uint8Array> {
-  const { town, funded, cohorts: { sizes, ofVoter } } = problem, encoder = new TextEncoder();
+  const { decided, funded, cohorts: { sizes, ofVoter } } = problem, encoder = new TextEncoder();
   const { starts, places, amounts } = byCohort(problem, payers, whole);
-  const fields = funded.map(project => fieldOf(town.ids[project])), seen = new Float64Array(sizes.length);
+  const fields = funded.map(project => fieldOf(decided.ids[project])), seen = new Float64Array(sizes.length);
   let text = pricesHead(whole.denominator, whole.budget);
   for (let voter = 0; voter < ofVoter.length; voter++) {
     const cohort = ofVoter[voter], size = sizes[cohort], member = seen[cohort]++;

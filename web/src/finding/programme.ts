@@ -2,9 +2,9 @@
    with payments that do it, and the weights by which it is no greater, or by which there is none at all. */
 
 import { commonPart, MILLION } from "../elections/amounts.js";
+import { votersIn } from "./decided_election.js";
 import { approvalsOf, everyCohort, payersOf } from "./shares.js";
 import { Tableau } from "./simplex.js";
-import { votersIn } from "./town.js";
 import type { Whole } from "./rounding.js";
 import type { Payers, Problem } from "./shares.js";
 import type { Row } from "./simplex.js";
@@ -40,10 +40,10 @@ class Programme {
   private readonly sizes: readonly bigint[];
 
   constructor(readonly problem: Problem, private readonly stable: boolean) {
-    const { town, cohorts: { sizes } } = problem;
+    const { decided, cohorts: { sizes } } = problem;
     this.payers = payersOf(problem);
     this.budget = this.payers.cohorts.length;
-    this.part = commonPart([town.limit, ...town.costs]);
+    this.part = commonPart([decided.limit, ...decided.costs]);
     this.sizes = Array.from(sizes, BigInt);
     this.addFunded();
     this.addUnfunded();
@@ -60,7 +60,7 @@ class Programme {
 
   /** What a project costs, in what all amounts are multiples of. */
   private cost(project: number): bigint {
-    return this.problem.town.costs[project] / this.part;
+    return this.problem.decided.costs[project] / this.part;
   }
 
   /** What a voter of a cohort has left, so many times. */
@@ -134,14 +134,14 @@ class Programme {
 
 /** Solves the programme, and says how many steps were made. Undefined where it has too many numbers. */
 export function* byProgramme(problem: Problem, stable: boolean): Generator<number, Solved | undefined> {
-  const { town, funded, cohorts: { sizes } } = problem, payments = payersOf(problem).cohorts.length;
+  const { decided, funded, cohorts: { sizes } } = problem, payments = payersOf(problem).cohorts.length;
   const rows = funded.length + problem.unfunded.length + sizes.length + (stable ? sizes.length + payments : 0);
   if (rows * (payments + sizes.length + rows) > MOST_NUMBERS || !problem.unfunded.length) return undefined;
   const programme = new Programme(problem, stable), tableau = new Tableau(programme.variables, programme.rows, programme.budget);
   const isPriced = yield* tableau.solve(), multipliers = tableau.multipliers();
   if (!isPriced) return { isPriced, isCovered: false, weights: programme.weights(multipliers, 1n, 0n) };
-  const values = tableau.values(), [budget, whole] = values[programme.budget], voters = BigInt(votersIn(town));
-  const isCovered = budget * programme.part * voters > town.limit * whole, prices = programme.prices(values);
+  const values = tableau.values(), [budget, whole] = values[programme.budget], voters = BigInt(votersIn(decided));
+  const isCovered = budget * programme.part * voters > decided.limit * whole, prices = programme.prices(values);
   return isCovered ? { isPriced, isCovered, prices }
     : { isPriced, isCovered, prices, weights: programme.weights(multipliers, voters, multipliers.scale) };
 }

@@ -1,8 +1,8 @@
 /* The search for refutations: weights of the projects by which no prices can support an outcome. They are those of the
    interior-point method, made whole, or of few voters those of the exact programme. */
 
+import { votersIn } from "./decided_election.js";
 import { told } from "./deciding.js";
-import { votersIn } from "./town.js";
 import { exactWeights, wholeWeights } from "./whole.js";
 import type { Decisions, Progress } from "./deciding.js";
 import type { Refutation } from "./groups.js";
@@ -24,7 +24,7 @@ export const refutingNeeds = ({ stable, cover }: Need): Need[] => [false, ...sta
 /** Looks for a refutation of prices. One of those with Cover alone is kept where there is none of all. */
 export function* findRefutation(decisions: Decisions, wanted: Need): Generator<Progress, FoundRefutation | undefined> {
   // Nobody's budgets aren't more than any limit.
-  if (!votersIn(decisions.problem.town)) return wanted.cover ? { cover: 1, weights: [], stable: false } : undefined;
+  if (!votersIn(decisions.problem.decided)) return wanted.cover ? { cover: 1, weights: [], stable: false } : undefined;
   let kept: FoundRefutation | undefined;
   for (const need of refutingNeeds(wanted)) {
     const found = yield* refutationOfKind(decisions, need);
@@ -49,7 +49,7 @@ function* refutationOfKind(decisions: Decisions, need: Need): Generator<Progress
 function* knownOf(decisions: Decisions, need: Need): Generator<Progress, { isPriced: boolean; weights?: Weights }> {
   const known = decisions.known(need);
   if (known) return known;
-  if (yield* decisions.byWater(need)) return { isPriced: true };
+  if (yield* decisions.byWaterFilling(need)) return { isPriced: true };
   const { shares, weights } = yield* decisions.byInterior(need);
   return { isPriced: shares !== undefined, weights };
 }

@@ -3,7 +3,7 @@
 
 import { MILLION } from "../elections/amounts.js";
 import { sumsOf } from "./cohorts.js";
-import { votersIn } from "./town.js";
+import { votersIn } from "./decided_election.js";
 import type { Need, Problem, Shares } from "./shares.js";
 
 /** What the voters of each cohort pay together, beside the payers; and the budget of a voter. */
@@ -41,12 +41,12 @@ function spentBy(shares: Shares, numerators: Float64Array): Float64Array {
 }
 
 /** The least budget of a voter by which C2 holds, and Cover where that is needed. */
-function leastBudget({ town, cohorts: { sizes } }: Problem, spent: Float64Array, denominator: number,
+function leastBudget({ decided, cohorts: { sizes } }: Problem, spent: Float64Array, denominator: number,
     cover: boolean): number {
   let least = 0;
   spent.forEach((sum, cohort) => { least = Math.max(least, Math.ceil(sum / sizes[cohort])); });
   if (!cover) return least;
-  const share = town.limit * BigInt(denominator) / (MILLION * BigInt(votersIn(town)));
+  const share = decided.limit * BigInt(denominator) / (MILLION * BigInt(votersIn(decided)));
   return Math.max(least, Number(share) + 1);
 }
 
@@ -64,21 +64,21 @@ function offersOf({ cohorts: { sizes } }: Problem, shares: Shares, { budget, num
 }
 
 /** Whether what the supporters of each unfunded project offer is no more than it costs. */
-function isKept({ town, cohorts, unfunded }: Problem, denominator: number, offers: Float64Array): boolean {
-  const sums = sumsOf(cohorts, cohort => offers[cohort], town.ids.length);
-  return unfunded.every(project => BigInt(sums[project]) <= numeratorOf(town.costs[project], denominator));
+function isKept({ decided, cohorts, unfunded }: Problem, denominator: number, offers: Float64Array): boolean {
+  const sums = sumsOf(cohorts, cohort => offers[cohort], decided.ids.length);
+  return unfunded.every(project => BigInt(sums[project]) <= numeratorOf(decided.costs[project], denominator));
 }
 
 /** Payments over a denominator by which what is funded costs whole numbers; undefined where a
     condition isn't kept. */
 export function wholeBy(problem: Problem, shares: Shares, denominator: number, need: Need): Whole | undefined {
-  const { town, funded } = problem, numerators = new Float64Array(shares.paid.length);
-  const costs = funded.map(project => numeratorOf(town.costs[project], denominator));
+  const { decided, funded } = problem, numerators = new Float64Array(shares.paid.length);
+  const costs = funded.map(project => numeratorOf(decided.costs[project], denominator));
   if (costs.some(cost => cost > BigInt(Number.MAX_SAFE_INTEGER))) return undefined;
   costs.forEach((cost, place) => shareCost(problem, shares, place, Number(cost), numerators));
   const spent = spentBy(shares, numerators), budget = leastBudget(problem, spent, denominator, need.cover);
   // No sum is more than twice what all voters have.
-  if (2 * budget * votersIn(town) > Number.MAX_SAFE_INTEGER) return undefined;
+  if (2 * budget * votersIn(decided) > Number.MAX_SAFE_INTEGER) return undefined;
   const whole = { denominator, budget, numerators };
   return isKept(problem, denominator, offersOf(problem, shares, whole, spent, need.stable)) ? whole : undefined;
 }

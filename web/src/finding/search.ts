@@ -5,12 +5,12 @@
 
 import { commonPart } from "../elections/amounts.js";
 import { cohortsOf } from "./cohorts.js";
+import { costOf, placesWhere, votersIn } from "./decided_election.js";
 import { covers, figuresOf } from "./groups.js";
-import { costOf, placesWhere, votersIn } from "./town.js";
 import type { Cohorts } from "./cohorts.js";
 import type { Demand } from "./certificates.js";
+import type { DecidedElection } from "./decided_election.js";
 import type { Measure } from "./groups.js";
-import type { Town } from "./town.js";
 
 /** Larger sets aren't tried. */
 export const MOST_PROJECTS = 6;
@@ -70,14 +70,14 @@ export class Search {
   /** What a voter of each cohort gets. */
   private readonly got: Float64Array;
 
-  constructor(private readonly town: Town, private readonly measure: Measure,
-      private readonly cohorts: Cohorts = cohortsOf(town.ballots)) {
-    const part = commonPart([town.limit, ...town.costs]);
-    this.costs = Float64Array.from(town.costs, cost => Number(cost / part));
-    this.limit = Number(town.limit / part);
-    this.voters = votersIn(town);
+  constructor(private readonly decided: DecidedElection, private readonly measure: Measure,
+      private readonly cohorts: Cohorts = cohortsOf(decided.ballots)) {
+    const part = commonPart([decided.limit, ...decided.costs]);
+    this.costs = Float64Array.from(decided.costs, cost => Number(cost / part));
+    this.limit = Number(decided.limit / part);
+    this.voters = votersIn(decided);
     this.candidates = this.demandable();
-    this.ranked = rankedBy(cohorts, this.candidates, town.ids.length);
+    this.ranked = rankedBy(cohorts, this.candidates, decided.ids.length);
     this.got = this.gains();
   }
 
@@ -101,16 +101,16 @@ export class Search {
 
   /** The projects that could be demanded by themselves, unfunded ones first, so that one of these is in each demand. */
   private demandable(): number[] {
-    const { town } = this, { isFunded } = town, supporters = new Float64Array(town.ids.length);
-    for (const place of town.ballots.places) supporters[place]++;
+    const { decided } = this, { isFunded } = decided, supporters = new Float64Array(decided.ids.length);
+    for (const place of decided.ballots.places) supporters[place]++;
     const price = (project: number): number => this.costs[project] / supporters[project];
     const state = (project: number): number => Number(isFunded[project]);
-    return placesWhere(town, at => supporters[at] > 0 && covers(town, supporters[at], town.costs[at]))
+    return placesWhere(decided, at => supporters[at] > 0 && covers(decided, supporters[at], decided.costs[at]))
       .sort((one, other) => state(one) - state(other) || price(one) - price(other) || one - other);
   }
 
   private gains(): Float64Array {
-    const { first, ballots: { starts, places } } = this.cohorts, { isFunded } = this.town;
+    const { first, ballots: { starts, places } } = this.cohorts, { isFunded } = this.decided;
     return Float64Array.from(first, voter => {
       let got = 0;
       for (let at = starts[voter]; at < starts[voter + 1]; at++) {
@@ -158,7 +158,7 @@ export class Search {
     for (const [at, { rank, group }] of fitting.entries()) {
       const project = this.candidates[rank];
       // A demand without an unfunded project is no violation.
-      if (fitting.length - at < missing || !grown.demand.length && this.town.isFunded[project]) break;
+      if (fitting.length - at < missing || !grown.demand.length && this.decided.isFunded[project]) break;
       const demand = [...grown.demand, project], cost = grown.cost + this.costs[project];
       if (yield* this.extend({ demand, group, cost, from: rank + 1 })) isAny = true;
     }
@@ -210,7 +210,7 @@ export class Search {
     let isAny = false;
     for (let rank = from; rank < count; rank++) {
       const project = this.candidates[rank];
-      if (!demand.length && this.town.isFunded[project]) break;
+      if (!demand.length && this.decided.isFunded[project]) break;
       if (!this.fits(members[rank], cost + this.costs[project])) continue;
       isAny = true;
       if (this.fits(needy[rank], cost + this.costs[project])) this.judge([...demand, project], needy[rank]);
@@ -220,15 +220,15 @@ export class Search {
 
   /** Keeps a demand where the group's share is exactly more over its cost than that of the one before. */
   private judge(projects: readonly number[], members: number): void {
-    const { town } = this;
-    const over = BigInt(members) * town.limit - BigInt(this.voters) * costOf(town, projects);
+    const { decided } = this;
+    const over = BigInt(members) * decided.limit - BigInt(this.voters) * costOf(decided, projects);
     if (over >= 0n && (!this.best || over > this.best.over)) this.best = { over, projects };
   }
 
   /** The group of a demand, exactly. Undefined where rounded sums took for a violation what is none. */
   private demandOf(projects: readonly number[]): Demand | undefined {
     const sorted = [...projects].sort((one, other) => one - other);
-    const { voters, isViolation } = figuresOf(this.town, sorted).claims[this.measure];
+    const { voters, isViolation } = figuresOf(this.decided, sorted).claims[this.measure];
     return isViolation ? { voters, projects: sorted } : undefined;
   }
 }

@@ -21,7 +21,7 @@ export type Sought =
 
 export function* seek(decisions: Decisions, seeks: Seeks, need: Need): Generator<Progress, Sought> {
   const { problem } = decisions, project = unpaid(problem);
-  if (!roomOf(problem.town).isFeasible) return { says: "infeasible" };
+  if (!roomOf(problem.decided).isFeasible) return { says: "infeasible" };
   if (project !== undefined) {
     return { says: "unpaid", project, refutation: { ...unpaidRefutation(project), stable: false } };
   }

@@ -1,9 +1,9 @@
 /* What cohorts of voters pay, in floats: what a search for prices comes to before it is made exact. */
 
 import { sumsOf } from "./cohorts.js";
-import { placesWhere, votersIn } from "./town.js";
+import { placesWhere, votersIn } from "./decided_election.js";
 import type { Cohorts } from "./cohorts.js";
-import type { Town } from "./town.js";
+import type { DecidedElection } from "./decided_election.js";
 
 /** How often the greatest budget of the stable form is looked for by halving. */
 const HALVINGS = 60;
@@ -20,7 +20,7 @@ export interface Need {
  * approves.
  */
 export interface Problem {
-  readonly town: Town;
+  readonly decided: DecidedElection;
   readonly cohorts: Cohorts;
   readonly costs: Float64Array;
   /** A voter's share of the limit. */
@@ -30,14 +30,14 @@ export interface Problem {
   readonly supporters: Float64Array;
 }
 
-export function problemOf(town: Town, cohorts: Cohorts): Problem {
-  const unit = votersIn(town) && town.limit ? Number(town.limit) / votersIn(town) : 1e6;
-  const supporters = sumsOf(cohorts, cohort => cohorts.sizes[cohort], town.ids.length);
+export function problemOf(decided: DecidedElection, cohorts: Cohorts): Problem {
+  const unit = votersIn(decided) && decided.limit ? Number(decided.limit) / votersIn(decided) : 1e6;
+  const supporters = sumsOf(cohorts, cohort => cohorts.sizes[cohort], decided.ids.length);
   return {
-    town, cohorts, share: town.limit ? 1 : 0, supporters,
-    costs: Float64Array.from(town.costs, cost => Number(cost) / unit),
-    funded: placesWhere(town, at => town.isFunded[at] && town.costs[at] > 0n),
-    unfunded: placesWhere(town, at => !town.isFunded[at] && supporters[at] > 0),
+    decided, cohorts, share: decided.limit ? 1 : 0, supporters,
+    costs: Float64Array.from(decided.costs, cost => Number(cost) / unit),
+    funded: placesWhere(decided, at => decided.isFunded[at] && decided.costs[at] > 0n),
+    unfunded: placesWhere(decided, at => !decided.isFunded[at] && supporters[at] > 0),
   };
 }
 
@@ -52,9 +52,9 @@ export interface Approvals {
 }
 
 /** What some cohorts approve of some projects, whose places are counted from one on. */
-export function approvalsOf({ town, cohorts: { first, ballots } }: Problem, projects: readonly number[],
+export function approvalsOf({ decided, cohorts: { first, ballots } }: Problem, projects: readonly number[],
     members: Uint32Array, from = 0): Approvals {
-  const placeOf = new Int32Array(town.ids.length).fill(-1), starts = new Uint32Array(members.length + 1);
+  const placeOf = new Int32Array(decided.ids.length).fill(-1), starts = new Uint32Array(members.length + 1);
   projects.forEach((project, place) => { placeOf[project] = from + place; });
   const found = new Uint16Array(ballots.places.length);
   let end = 0;
@@ -104,10 +104,10 @@ export const largest = (numbers: Iterable<number>, least: number): number => {
 };
 
 /** By how much more the supporters of each unfunded project have left together, or can offer, than it costs. */
-export function excesses({ cohorts, costs, unfunded, town }: Problem, { spent }: Shares, budget: number,
+export function excesses({ cohorts, costs, unfunded, decided }: Problem, { spent }: Shares, budget: number,
     dearest: Float64Array | undefined): number[] {
   const offer = (cohort: number): number => Math.max(budget - spent[cohort], dearest ? dearest[cohort] : -Infinity);
-  const sums = sumsOf(cohorts, cohort => cohorts.sizes[cohort] * offer(cohort), town.ids.length);
+  const sums = sumsOf(cohorts, cohort => cohorts.sizes[cohort] * offer(cohort), decided.ids.length);
   return unfunded.map(project => sums[project] - costs[project]);
 }
 

@@ -62,10 +62,10 @@ const roundedBy = ({ funded, unfunded, cover }: Weights, scale: number): Weights
 }));
 
 /** U2 and U3, exactly. */
-function holds({ town, funded, unfunded }: Problem, voters: Voters, weights: Weights): boolean {
+function holds({ decided, funded, unfunded }: Problem, voters: Voters, weights: Weights): boolean {
   const sum = (places: readonly number[], own: Float64Array): bigint =>
-    places.reduce((all, place, at) => all + town.costs[place] * BigInt(own[at]), 0n);
-  const over = sum(funded, weights.funded) + town.limit * BigInt(weights.cover) - sum(unfunded, weights.unfunded);
+    places.reduce((all, place, at) => all + decided.costs[place] * BigInt(own[at]), 0n);
+  const over = sum(funded, weights.funded) + decided.limit * BigInt(weights.cover) - sum(unfunded, weights.unfunded);
   return (over > 0n || over === 0n && weights.cover > 0) && voters.wholeTotal(weights) <= 0n;
 }
 
@@ -84,16 +84,16 @@ function lowest(problem: Problem, voters: Voters, weights: Weights): Weights {
 
 /** What the weights say of projects, with some for funded ones that cost nothing, by which these have no part in U2. */
 function refutationBy(problem: Problem, voters: Voters, weights: Weights): Refutation {
-  const { town, funded, unfunded } = problem, contributions = voters.wholeContributions(weights), rows: Weight[] = [];
+  const { decided, funded, unfunded } = problem, contributions = voters.wholeContributions(weights), rows: Weight[] = [];
   const put = (project: number, weight: number): void => {
     if (!weight) return;
-    const role = !town.isFunded[project] ? "left" : weight > 0 ? "least" : "most";
+    const role = !decided.isFunded[project] ? "left" : weight > 0 ? "least" : "most";
     rows.push({ role, project, weight: Math.abs(weight) });
   };
   funded.forEach((project, at) => put(project, weights.funded[at]));
   unfunded.forEach((project, at) => put(project, weights.unfunded[at]));
-  town.ids.forEach((_, project) => {
-    if (town.isFunded[project] && !town.costs[project]) put(project, voters.leastOf(project, contributions));
+  decided.ids.forEach((_, project) => {
+    if (decided.isFunded[project] && !decided.costs[project]) put(project, voters.leastOf(project, contributions));
   });
   return { cover: weights.cover, weights: rows.sort((one, other) => one.project - other.project) };
 }

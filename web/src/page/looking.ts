@@ -207,7 +207,7 @@ export class Looking {
     if (step.of === "outcomes" || step.of === "prices" && step.by === "whole") return;
     element("looking-for").textContent = step.of === "groups"
       ? fill(words.trying, { measure: measureIn(words, step.measure), count: grouped(step.size) })
-      : step.by === "water" ? fill(words.levelling, { count: grouped(step.count + 1) })
+      : step.by === "waterFilling" ? fill(words.levelling, { count: grouped(step.count + 1) })
       : fill(words.deciding, { count: grouped(step.count) });
   }
 

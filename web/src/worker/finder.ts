@@ -6,18 +6,18 @@ import { Electorate } from "../comparing/rule.js";
 import { readElection, Unlike, withOutcome } from "../elections/election.js";
 import { refutationText, violationText } from "../finding/certificates.js";
 import { cohortsOf } from "../finding/cohorts.js";
+import { decidedOf } from "../finding/decided_election.js";
 import { Decisions } from "../finding/deciding.js";
 import { claimantsOf, figuresOf, MEASURES, refutationOf, roomOf } from "../finding/groups.js";
 import { Search } from "../finding/search.js";
 import { seek } from "../finding/seeking.js";
 import { problemOf } from "../finding/shares.js";
-import { townOf } from "../finding/town.js";
 import { sumOf } from "./bytes.js";
 import type { Completion } from "../comparing/shares.js";
 import type { Cohorts } from "../finding/cohorts.js";
+import type { DecidedElection } from "../finding/decided_election.js";
 import type { Claim, Measure, Refutation } from "../finding/groups.js";
 import type { Sought } from "../finding/seeking.js";
-import type { Town } from "../finding/town.js";
 import type {
   FindOrder, FindProgress, FindTold, FoundGroups, Numbered, PricesOrder, PricesTold, ReadOrder, SearchedGroups, ShownClaim,
   ShownFigures, ViolationOrder,
@@ -52,23 +52,25 @@ function requireSums(order: ReadOrder, sums: Sums): void {
 const shownClaim = ({ voters, share, most, isViolation }: Claim): ShownClaim =>
   ({ members: voters.length, share, most, isViolation });
 
-const refutationFile = (town: Town, { cover, weights }: Refutation): Blob => new Blob([refutationText(town, cover, weights)]);
+const refutationFile = (decided: DecidedElection, { cover, weights }: Refutation): Blob =>
+  new Blob([refutationText(decided, cover, weights)]);
 
 /** What is told of prices, with the file of what was found. */
-function pricesTold(town: Town, sought: Sought): PricesTold {
+function pricesTold(decided: DecidedElection, sought: Sought): PricesTold {
   if (sought.says === "found") {
     return { tells: "prices", says: "found", cover: sought.cover, file: new Blob([...sought.pieces]) };
   }
   if (sought.says === "unpaid") {
-    return { tells: "prices", ...sought, refutation: refutationFile(town, sought.refutation) };
+    return { tells: "prices", ...sought, refutation: refutationFile(decided, sought.refutation) };
   }
   if (sought.says !== "refuted") return { tells: "prices", says: sought.says };
   const { refutation } = sought, { stable } = refutation;
-  return { tells: "prices", says: "refuted", stable, cover: refutation.cover > 0, refutation: refutationFile(town, refutation) };
+  const file = refutationFile(decided, refutation);
+  return { tells: "prices", says: "refuted", stable, cover: refutation.cover > 0, refutation: file };
 }
 
 class Finder {
-  private town: Town | undefined;
+  private decided: DecidedElection | undefined;
   private cohorts: Cohorts | undefined;
   /** What was decided of prices, from one search to the next. */
   private decisions: Decisions | undefined;
@@ -101,8 +103,8 @@ class Finder {
     requireSums(order, sums);
     this.given = { ...order, sums };
     const bare = readElection(election), whole = outcome ? withOutcome(bare, outcome) : bare;
-    this.town = townOf(whole);
-    return { tells: "summary", summary: whole.summary, ...roomOf(this.town), sums };
+    this.decided = decidedOf(whole);
+    return { tells: "summary", summary: whole.summary, ...roomOf(this.decided), sums };
   }
 
   /** Refuses where files aren't any more what was read: a certificate is of them, and not of what is kept of them. */
@@ -110,13 +112,13 @@ class Finder {
     if (this.given) requireSums(this.given, (await contentsOf(this.given)).map(sumOf));
   }
 
-  private known(): { town: Town; cohorts: Cohorts } {
-    if (!this.town) throw new Error("no election was read");
-    return { town: this.town, cohorts: this.cohorts ??= cohortsOf(this.town.ballots) };
+  private known(): { decided: DecidedElection; cohorts: Cohorts } {
+    if (!this.decided) throw new Error("no election was read");
+    return { decided: this.decided, cohorts: this.cohorts ??= cohortsOf(this.decided.ballots) };
   }
 
   private figures(ticked: readonly number[]): ShownFigures {
-    const { projects, cost, approving, share, claims } = figuresOf(this.known().town, ticked);
+    const { projects, cost, approving, share, claims } = figuresOf(this.known().decided, ticked);
     return {
       tells: "figures", projects, cost, approving, share,
       claims: { count: shownClaim(claims.count), cost: shownClaim(claims.cost) },
@@ -124,11 +126,11 @@ class Finder {
   }
 
   private violation({ measure, projects }: ViolationOrder): FindTold {
-    const { town } = this.known(), voters = claimantsOf(town, measure, projects);
-    const refutation = refutationOf(town, { voters, projects });
+    const { decided } = this.known(), voters = claimantsOf(decided, measure, projects);
+    const refutation = refutationOf(decided, { voters, projects });
     return {
-      tells: "violation", file: new Blob([violationText(town, measure, { voters, projects })]),
-      ...refutation ? { refutation: refutationFile(town, refutation) } : {},
+      tells: "violation", file: new Blob([violationText(decided, measure, { voters, projects })]),
+      ...refutation ? { refutation: refutationFile(decided, refutation) } : {},
     };
   }
 
@@ -147,21 +149,21 @@ class Finder {
   }
 
   private searchFor(measure: Measure): Search {
-    const { town, cohorts } = this.known();
-    return new Search(town, measure, cohorts);
+    const { decided, cohorts } = this.known();
+    return new Search(decided, measure, cohorts);
   }
 
   private async outcomes(completion: Completion, tell: Tell): Promise<FindTold> {
-    const { town, cohorts } = this.known();
-    const done = await this.sliced(outcomesOf(new Electorate(town, cohorts), completion), step =>
+    const { decided, cohorts } = this.known();
+    const done = await this.sliced(outcomesOf(new Electorate(decided, cohorts), completion), step =>
       tell({ tells: "progress", of: "outcomes", ...step }));
     return done ? { tells: "outcomes", ...done.value } : { tells: "stopped" };
   }
 
   private async prices({ seeks, need }: PricesOrder, tell: Tell): Promise<PricesTold> {
-    const { town, cohorts } = this.known(), decisions = this.decisions ??= new Decisions(problemOf(town, cohorts));
+    const { decided, cohorts } = this.known(), decisions = this.decisions ??= new Decisions(problemOf(decided, cohorts));
     const done = await this.sliced(seek(decisions, seeks, need), step => tell({ tells: "progress", of: "prices", ...step }));
-    return done ? pricesTold(town, done.value) : { tells: "prices", says: "stopped" };
+    return done ? pricesTold(decided, done.value) : { tells: "prices", says: "stopped" };
   }
 
   /** Lets a search go on to its end, and answers what it comes to; undefined where it was stopped. */

@@ -18,7 +18,7 @@ const ROOM = 1e-3;
 const PATIENCE = 10, NEARER = 0.99;
 
 /** Payments of the supporters of funded projects, and how rich the cohorts are taken for. */
-export class Water implements Shares {
+export class WaterFilling implements Shares {
   readonly payers: Payers;
   /** What a voter of each cohort pays, beside the payers; and what it spends. */
   readonly paid: Float64Array;
@@ -108,23 +108,23 @@ export class Water implements Shares {
 }
 
 /** Looks for payments that keep all conditions in floats, and says before each round of more how many there were. */
-export function* byWater(problem: Problem, need: Need): Generator<number, Water | undefined> {
-  const water = new Water(problem), { unfunded, supporters, costs, cohorts } = problem;
-  yield* water.settle(SWEEPS, 0);
+export function* byWaterFilling(problem: Problem, need: Need): Generator<number, WaterFilling | undefined> {
+  const filling = new WaterFilling(problem), { unfunded, supporters, costs, cohorts } = problem;
+  yield* filling.settle(SWEEPS, 0);
   const asked = new Float64Array(costs.length), least = need.cover ? problem.share + STILL : 0;
   let best = Infinity, since = 0;
   for (let round = 1; round <= ROUNDS; round++) {
-    const [spent, high] = budgetsOf(problem, water, need.stable), low = Math.max(spent, least);
-    if (low <= high) return water;
+    const [spent, high] = budgetsOf(problem, filling, need.stable), low = Math.max(spent, least);
+    if (low <= high) return filling;
     [best, since] = low - high < NEARER * best ? [low - high, 0] : [best, since + 1];
     if (need.stable || since > PATIENCE) return undefined;
-    const left = sumsOf(cohorts, at => cohorts.sizes[at] * (low - water.spent[at]), costs.length);
+    const left = sumsOf(cohorts, at => cohorts.sizes[at] * (low - filling.spent[at]), costs.length);
     for (const project of unfunded) {
       const over = left[project] - (1 - ROOM) * costs[project];
       asked[project] = Math.max(asked[project] + (over > 0 ? 1 : 0.25) * over / supporters[project], 0);
     }
-    water.ask(asked);
-    yield* water.settle(MORE_SWEEPS, round);
+    filling.ask(asked);
+    yield* filling.settle(MORE_SWEEPS, round);
   }
   return undefined;
 }

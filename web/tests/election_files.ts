@@ -1,8 +1,8 @@
 /* Elections for tests, as text. */
 
 import { readElection } from "../src/elections/election.js";
-import { townOf } from "../src/finding/town.js";
-import type { Town } from "../src/finding/town.js";
+import { decidedOf } from "../src/finding/decided_election.js";
+import type { DecidedElection } from "../src/finding/decided_election.js";
 
 export const bytes = (text: string): Uint8Array => new TextEncoder().encode(text);
 
@@ -17,7 +17,8 @@ export function fileOf(costs: readonly (number | string)[], limit: number, ballo
   ].join("\n");
 }
 
-export const townFrom = (...given: Parameters<typeof fileOf>): Town => townOf(readElection(bytes(fileOf(...given))));
+export const decidedFrom = (...given: Parameters<typeof fileOf>): DecidedElection =>
+  decidedOf(readElection(bytes(fileOf(...given))));
 
 /** What a search comes to that is let go on to its end. */
 export function ended<Answer>(search: Generator<unknown, Answer>): Answer {

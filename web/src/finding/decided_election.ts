@@ -5,7 +5,7 @@ import type { Ballots } from "../elections/ballots.js";
 import type { Election } from "../elections/election.js";
 
 /** Projects are places from 0, and amounts millionths. */
-export interface Town {
+export interface DecidedElection {
   readonly ids: readonly string[];
   readonly costs: readonly bigint[];
   readonly isFunded: readonly boolean[];
@@ -13,16 +13,16 @@ export interface Town {
   readonly ballots: Ballots;
 }
 
-export const townOf = ({ summary: { projects, limit }, ballots }: Election): Town => ({
+export const decidedOf = ({ summary: { projects, limit }, ballots }: Election): DecidedElection => ({
   ids: projects.map(({ id }) => id), costs: projects.map(({ cost }) => cost),
   isFunded: projects.map(({ isFunded }) => isFunded), limit, ballots,
 });
 
-export const votersIn = (town: Town): number => votersOf(town.ballots);
+export const votersIn = (decided: DecidedElection): number => votersOf(decided.ballots);
 
 /** The places of the projects for which this is so. */
-export const placesWhere = (town: Town, is: (place: number) => boolean): number[] =>
-  town.ids.map((_, place) => place).filter(is);
+export const placesWhere = (decided: DecidedElection, is: (place: number) => boolean): number[] =>
+  decided.ids.map((_, place) => place).filter(is);
 
-export const costOf = (town: Town, projects: readonly number[]): bigint =>
-  projects.reduce((sum, project) => sum + town.costs[project], 0n);
+export const costOf = (decided: DecidedElection, projects: readonly number[]): bigint =>
+  projects.reduce((sum, project) => sum + decided.costs[project], 0n);
