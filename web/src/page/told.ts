@@ -94,10 +94,13 @@ function answerIn({ words }: Page, { task, mode, said, refused }: Audit, isBelow
   return said.says === "failed" ? `${fill(words.notMet, { answer, condition: failureIn(words, said) })} ` : `${answer}. `;
 }
 
-/** The sentence beside the badge: the answer's, what the program prints, or what is missing. */
-export function sentenceOf(page: Page, audit: Audit): HTMLElement {
+/**
+ * The sentence beside the badge: the answer's, or what is missing. Before it stands of what the answer is, and behind it what
+ * the program prints or the browser says; alone it has neither.
+ */
+export function sentenceOf(page: Page, audit: Audit, isAlone = false): HTMLElement {
   const { words } = page, { task, line, problem } = audit, { election } = task;
-  if (problem) return make("span", {}, ...problemText(words, problem));
+  if (problem) return make("span", {}, ...isAlone ? [problemSentence(words, problem)] : problemText(words, problem));
   if (!election) {
     return make("span", { class: "soft" }, page.hasElections() ? words.asksElection : words.wantsElection);
   }
@@ -105,9 +108,9 @@ export function sentenceOf(page: Page, audit: Audit): HTMLElement {
   if (isRead(audit)) {
     return make("span", {}, readLine(page, audit), make("span", { class: "soft" }, ` ${words.needsOutcome}`));
   }
-  const isBelow = audit.page !== undefined && page.audits.length < 2, what = ofWhat(words, audit);
+  const isBelow = audit.page !== undefined && page.audits.length < 2, what = isAlone ? "" : ofWhat(words, audit);
   // The page of the only answer has the line.
-  const printed = line && !isBelow ? [make("code", { lang: "en" }, shownLine(line))] : [];
+  const printed = line && !isBelow && !isAlone ? [make("code", { lang: "en" }, shownLine(line))] : [];
   const head = what ? [make("strong", { class: "of" }, what), ". "] : [];
   if (isShortAudit(audit)) {
     return make("span", {}, ...head, `${shortSentence(page, audit)} `, make("span", { class: "soft" }, readLine(page, audit)));

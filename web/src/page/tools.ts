@@ -56,11 +56,10 @@ export function tableOf(page: Page): string {
 
 /** An audit as a row of the table. Of what its answer is, and what was asked, have columns of their own. */
 function rowOf(page: Page, audit: Audit): string[] {
-  const { words } = page, { task, mode, line = "" } = audit, told = sentenceOf(page, audit);
+  const { words } = page, { task, mode, line = "" } = audit;
   const names = [task.certificate, task.election, task.outcome].map(piece => piece ? pathOf(piece) : "");
   const answer = badgeOf(words, audit).textContent ?? "", what = ofWhat(words, audit);
-  for (const code of told.querySelectorAll("code")) code.remove();
-  const sentence = (told.textContent ?? "").slice(what ? `${what}. `.length : 0).trim();
+  const sentence = sentenceOf(page, audit, true).textContent?.trim() ?? "";
   const asked = mode && what && task.certificate?.kind === "prices" ? optionsIn(words, mode) : "";
   const said = [answer, what, asked, sentence, groupsIn(words, audit), line];
   return [...names, ...said, ...shortColumns(page, audit)];
