@@ -26,11 +26,6 @@ pub told_weaker : {T : Type 0} (told : Reply → T) (P Q : Reply → Type 0) →
     → (work : Result T Unanswered) → IfTold told P work → IfTold told Q work
 told_weaker told P Q each work is = grind arith
 
--- The lines that are told of a reply are the reply.
-pub lines_told : (P Q : Reply → Type 0) → ((r : Reply) → P r → Q r) → (work : Result Reply Unanswered)
-    → IfSome (or_refusal (λ r. r) work) P → IfTold (λ r. r) Q work
-lines_told P Q each work is = grind arith
-
 -- What the work came to is told of one of these replies.
 pub or_refusal_told : {T : Type 0} (told : Reply → T) (is_reply : Reply → Type 0) (work : Result T Unanswered) (own : T)
     → or_refusal told work ≡ Some own → IfTold told is_reply work → Tells told is_reply own
@@ -103,24 +98,14 @@ certificate_answered {A} rules each election outcome certificate e w r given tak
       taken.is (promised_of rules each e w certificate answered.c r answered.given answered.out);
 }
 
--- The same where the work gave nothing.
-pub stopped_at_outcome : {A : Type 0} (rules : AuditRules A)
-    (election : Delivery) (outcome : Option Delivery) (certificate : Delivery) (e : Instance) (why : Unanswered)
-    → StatesElection election (Ok e) → IfTaken {A = List Bool} (Err why) (AuditsOutcome e outcome)
-    → IfSome (reply_why why) (AnswersAudit rules election outcome certificate)
-stopped_at_outcome rules election outcome certificate e (unanswered.Refused r) given taken =
-    outcome_refused rules election outcome certificate e r given taken
-stopped_at_outcome rules election outcome certificate e unanswered.Memory given taken = tt
-
-pub certificate_settled : {A T : Type 0} (rules : AuditRules A) (told : Reply → T)
-    → Promised rules
-    → (election : Delivery) (outcome : Option Delivery) (certificate : Delivery) (e : Instance) (w : List Bool)
-    (work : Result T Unanswered)
-    → StatesElection election (Ok e) → AuditsOutcome e outcome (Ok w)
-    → IfTold told (AnswersCertificate rules.states rules.reply e w certificate) work
-    → IfTold told (AnswersAudit rules election outcome certificate) work
-certificate_settled rules told each election outcome certificate e w work given taken answered =
-    grind (arith, told_weaker)
+-- the same where no outcome file is given
+pub stopped_at_outcome : {A : Type 0} (rules : AuditRules A) (election certificate : Delivery) (e : Instance)
+    (why : Unanswered)
+    → StatesElection election (Ok e) → IfTaken {A = List Bool} (Err why) (AuditsOutcome e None)
+    → IfSome (reply_why why) (AnswersAudit rules election None certificate)
+stopped_at_outcome rules election certificate e (unanswered.Refused r) given taken =
+    outcome_refused rules election None certificate e r given taken
+stopped_at_outcome rules election certificate e unanswered.Memory given taken = tt
 
 -- The same on inputs in their turn.
 unfoldable pub ended_at_election : {A : Type 0} (rules : AuditRules A)
@@ -220,3 +205,9 @@ pub memory_told : {T : Type 0} (r : Result T Unanswered) (e : AllocError)
     → IsErr r × IsErrAnd r (from_gives-value.it e) → r ≡ Err unanswered.Memory
 memory_told (Ok x) e h = absurd h.1
 memory_told (Err s) e h = ap Err h.1
+
+-- what an input is refused for is handed on
+pub refusal_told : {T : Type 0} (r : Result T Unanswered) (why : Unanswered) → IsErr r × IsErrAnd r (λ s. s ≡ why)
+    → r ≡ Err why
+refusal_told (Ok x) why h = absurd h.1
+refusal_told (Err s) why h = ap Err h.1

@@ -9,13 +9,13 @@ use Rattle.pb_certificate.specs.declared.violations.measure.Measure.{Measure}
 use Rattle.pb_certificate.proofs.Unique.{group-text-sets}
 use Rattle.pb_cohesion.specs.Groups.{AreProjects, IsGroup, Violates}
 use Rattle.pb_cohesion.specs.Satisfactions.{worth_by}
-use Rattle.pb_price.specs.declared.Mode.{Mode}
+use Rattle.pb_cohesion.specs.declared.Mode.{Mode}
 use Rattle.pb_price.specs.Findings.{findings}
 use Rattle.pb_price.specs.declared.Findings.{Findings}
 use Rattle.pb_price.specs.declared.Verdict.{Verdict}
 use Rattle.pb_reply.specs.Replies.{Reply, refused, with_input}
 use Rattle.pb_audit.specs.Answers.{price_reply, verdict_reply, violation_reply}
-use Rattle.pb_audit.specs.Both.{BothPromise, GroupAndDemand, ReadsBoth, StatesBoth, beside, both_on, both_reply, both_rules, joined, yes_where_both}
+use Rattle.pb_audit.specs.Both.{BothPromise, GroupAndDemand, ReadsBoth, StatesBoth, beside, both_object, both_on, both_reply, both_rules, joined, yes_where_both}
 use Rattle.pb_reply.specs.Inputs.{InTurn, Stated, StatesElection, StatesPrices, StatesViolation}
 use Rattle.pb_input.specs.declared.InputRefusal.{InputRefusal}
 use Rattle.pb_reply.specs.Turns.{FileTurn, Turn}
@@ -27,7 +27,6 @@ use Rattle.pb_reply.specs.declared.unanswered.Unanswered.TheVariants as unanswer
 use Rattle.pb_reply.specs.declared.status.Status.{Status}
 use Rattle.pb_reply.specs.declared.status.Status.TheVariants.{Yes}
 use Rattle.pb_audit.proofs.Audits.{answered, ended_at_election, ended_at_outcome}
-use Rattle.pb_audit.specs.Objects.{both_text}
 use Rattle.pb_audit.proofs.Explained.{told_verdict}
 use Rattle.pb_reply.proofs.Culprits.{denominator-low}
 use Rattle.pb_reply.proofs.Promises.{prices_promise, violation_promises}
@@ -84,7 +83,7 @@ both_answered m e w prices violation f r found answered = record {
   given = (found.1.0, answered.given);
   out = answered.out
       ∙ ap (λ (g : Findings). with_input answered.c (λ claim. beside m g e w claim)) found.1.1
-      ∙ ap (λ (v : Verdict). with_input answered.c (λ claim. joined (both_text m e w v (findings e w found.0) claim)
+      ∙ ap (λ (v : Verdict). with_input answered.c (λ claim. joined (both_object m e w v (findings e w found.0) claim)
       (verdict_reply m e w v (findings e w found.0) None) (violation_reply e w claim)))
       (told_verdict m e w found.0 (denominator-low name.Prices e prices found.0 found.1.0));
 }

@@ -1,6 +1,6 @@
 -- The answers of `explain`.
 use Rattle.std.proofs.Common.{◌≡◌, ◌∙◌, ap, get_or, ℕ, Bool, List, [], ◌≤◌, ◌^◌, refl, subst, sym, arith}
-use Rattle.std.specs.Prelude.{ℤ, pos, ◌-ℤ◌, IfSome, Result, Ok, Err, None, slice_get}
+use Rattle.std.specs.Prelude.{ℤ, pos, ◌-ℤ◌, IfSome, Ok, Err, Option, Some, None, slice_get}
 use Rattle.std.specs.List.{AllByRecursion}
 use Rattle.pb_records.specs.Loading.{Delivery}
 use Rattle.pb_records.proofs.Each.{all-filter, all-first}
@@ -18,7 +18,7 @@ use Rattle.pb_price.specs.First.{First, verdict_of}
 use Rattle.pb_price.specs.OnGroups.{HoldsOfGroups, groups_by, on_groups}
 use Rattle.pb_price.specs.Told.{first_told}
 use Rattle.pb_price.specs.declared.Findings.{Findings}
-use Rattle.pb_price.specs.declared.Mode.{Mode}
+use Rattle.pb_cohesion.specs.declared.Mode.{Mode}
 use Rattle.pb_price.specs.declared.Verdict.{Verdict}
 use Rattle.pb_cohesion.specs.declared.RefutationVerdict.{RefutationVerdict}
 use Rattle.pb_cohesion.specs.declared.ViolationVerdict.{ViolationVerdict}
@@ -38,13 +38,10 @@ use Rattle.pb_reply.specs.Promises.{PricesPromise}
 use Rattle.pb_audit.specs.Explained.{IsSoOfGroups, explained_prices, explained_refutation, explained_reply, explained_rules, explained_verdict, explained_violation, nearest_on_yes}
 use Rattle.pb_reply.specs.Certificates.{Certificate, OfPrices, OfRefutation, OfViolation, StatesCertificate, StatesKind, as_certificate, kind_in}
 use Rattle.pb_reply.specs.Inputs.{Stated, StatesPrices, StatesRefutation, StatesViolation}
-use Rattle.pb_audit.specs.Inside.Certificates.{AnswersCertificate, CanBeTold, IfTold, Promised}
-use Rattle.pb_reply.specs.Inside.Taking.{or_refusal}
+use Rattle.pb_audit.specs.Inside.Certificates.{AnswersCertificate, CanBeTold, Promised}
 use Rattle.pb_input.specs.declared.InputName.{InputName}
 use Rattle.pb_input.specs.declared.InputName.TheVariants as name
-use Rattle.pb_reply.specs.declared.unanswered.Unanswered.{Unanswered}
 use Rattle.pb_reply.specs.declared.status.Status.{Status}
-use Rattle.pb_audit.proofs.Audits.{lines_told}
 use Rattle.pb_json.proofs.Named.{among-projects, named-either, named-first, projects-are, unapproved-name}
 use Rattle.pb_reply.proofs.Culprits.{denominator-low, missing-name, told_names_project}
 use Rattle.pb_reply.proofs.Promises.{certificate_promises}
@@ -79,41 +76,41 @@ explained_promise m e w d (OfRefutation r) given = certificate_promises m e w d 
 -- the reply on a certificate of one kind is that on one of any kind
 as_kind : {A : Type 0} (of : A → Certificate) (states : Instance → Delivery → Stated A → Type 0)
     (reply : Instance → List Bool → A → Reply) (m : Mode) (e : Instance) (w : List Bool) (d : Delivery)
-    (work : Result Reply Unanswered) → ((s : Stated A) → states e d s → StatesCertificate e d (as_certificate of s))
+    (told : Option Reply) → ((s : Stated A) → states e d s → StatesCertificate e d (as_certificate of s))
     → ((a : A) → reply e w a ≡ explained_reply m e w (of a))
-    → IfSome (or_refusal (λ r. r) work) (AnswersCertificate states reply e w d)
-    → IfTold (λ r. r) (AnswersCertificate StatesCertificate (explained_reply m) e w d) work
-as_kind {A} of states reply m e w d work taken same answers =
-    lines_told _ _ (λ r found. go r found.c found.given found.out) work answers
+    → IfSome told (AnswersCertificate states reply e w d)
+    → IfSome told (AnswersCertificate StatesCertificate (explained_reply m) e w d)
+as_kind of states reply m e w d None taken same answers = tt
+as_kind {A} of states reply m e w d (Some r) taken same answers = go answers.c answers.given answers.out
   where
-    go : (r : Reply) (c : Stated A) → states e d c → r ≡ with_input c (λ a. reply e w a)
+    go : (c : Stated A) → states e d c → r ≡ with_input c (λ a. reply e w a)
         → AnswersCertificate StatesCertificate (explained_reply m) e w d r
-    go r (Ok a) given out = record { c = Ok (of a); given = taken (Ok a) given; out = out ∙ same a }
-    go r (Err why) given out = record { c = Err why; given = taken (Err why) given; out = out }
+    go (Ok a) given out = record { c = Ok (of a); given = taken (Ok a) given; out = out ∙ same a }
+    go (Err why) given out = record { c = Err why; given = taken (Err why) given; out = out }
 
-pub as_prices : (m : Mode) (e : Instance) (w : List Bool) (d : Delivery) (work : Result Reply Unanswered)
+pub as_prices : (m : Mode) (e : Instance) (w : List Bool) (d : Delivery) (told : Option Reply)
     → kind_in d ≡ kind.Prices
-    → IfSome (or_refusal (λ r. r) work) (AnswersCertificate (StatesPrices name.Certificate) (explained_prices m) e w d)
-    → IfTold (λ r. r) (AnswersCertificate StatesCertificate (explained_reply m) e w d) work
-as_prices m e w d work is answers =
-    as_kind OfPrices (StatesPrices name.Certificate) (explained_prices m) m e w d work
+    → IfSome told (AnswersCertificate (StatesPrices name.Certificate) (explained_prices m) e w d)
+    → IfSome told (AnswersCertificate StatesCertificate (explained_reply m) e w d)
+as_prices m e w d told is answers =
+    as_kind OfPrices (StatesPrices name.Certificate) (explained_prices m) m e w d told
     (λ s given. subst (λ k. StatesKind k e d (as_certificate OfPrices s)) (sym is) (s, given, refl)) (λ p. refl) answers
 
-pub as_violation : (m : Mode) (e : Instance) (w : List Bool) (d : Delivery) (work : Result Reply Unanswered)
+pub as_violation : (m : Mode) (e : Instance) (w : List Bool) (d : Delivery) (told : Option Reply)
     → kind_in d ≡ kind.Violation
-    → IfSome (or_refusal (λ r. r) work) (AnswersCertificate (StatesViolation name.Certificate) explained_violation e w d)
-    → IfTold (λ r. r) (AnswersCertificate StatesCertificate (explained_reply m) e w d) work
-as_violation m e w d work is answers =
-    as_kind OfViolation (StatesViolation name.Certificate) explained_violation m e w d work
+    → IfSome told (AnswersCertificate (StatesViolation name.Certificate) explained_violation e w d)
+    → IfSome told (AnswersCertificate StatesCertificate (explained_reply m) e w d)
+as_violation m e w d told is answers =
+    as_kind OfViolation (StatesViolation name.Certificate) explained_violation m e w d told
     (λ s given. subst (λ k. StatesKind k e d (as_certificate OfViolation s)) (sym is) (s, given, refl)) (λ v. refl)
     answers
 
-pub as_refutation : (m : Mode) (e : Instance) (w : List Bool) (d : Delivery) (work : Result Reply Unanswered)
+pub as_refutation : (m : Mode) (e : Instance) (w : List Bool) (d : Delivery) (told : Option Reply)
     → kind_in d ≡ kind.Refutation
-    → IfSome (or_refusal (λ r. r) work) (AnswersCertificate StatesRefutation (explained_refutation m.stable) e w d)
-    → IfTold (λ r. r) (AnswersCertificate StatesCertificate (explained_reply m) e w d) work
-as_refutation m e w d work is answers =
-    as_kind OfRefutation StatesRefutation (explained_refutation m.stable) m e w d work
+    → IfSome told (AnswersCertificate StatesRefutation (explained_refutation m.stable) e w d)
+    → IfSome told (AnswersCertificate StatesCertificate (explained_reply m) e w d)
+as_refutation m e w d told is answers =
+    as_kind OfRefutation StatesRefutation (explained_refutation m.stable) m e w d told
     (λ s given. subst (λ k. StatesKind k e d (as_certificate OfRefutation s)) (sym is) (s, given, refl)) (λ r. refl)
     answers
 

@@ -12,7 +12,7 @@ use Rattle.pb_cohesion.specs.Refutations.{NothingRefutes, NothingRefutesStable}
 use Rattle.pb_cohesion.specs.declared.RefutationVerdict.{RefutationVerdict}
 use Rattle.pb_cohesion.specs.declared.RefutationVerdict.TheVariants as verdict
 use Rattle.pb_cohesion.proofs.Refuted.{says-all, says-refuted, says-refuted-stable}
-use Rattle.pb_price.specs.declared.Mode.{Mode}
+use Rattle.pb_cohesion.specs.declared.Mode.{Mode}
 use Rattle.pb_reply.specs.Inputs.{FilesState, Stated, StatesOutcome, audited}
 use Rattle.pb_reply.specs.Lines.{refutation_line}
 use Rattle.pb_reply.specs.Replies.{Reply, refutation_status, refused, with_input}

@@ -6,7 +6,7 @@ use Rattle.pb_records.specs.Loading.{Delivery}
 use Rattle.pb_certificate.specs.Prices.{Prices}
 use Rattle.pb_cohesion.specs.declared.GroupFigures.{GroupFigures}
 use Rattle.pb_cohesion.proofs.OneShown.{figures_are_one, figures_exist}
-use Rattle.pb_price.specs.declared.Mode.{Mode}
+use Rattle.pb_cohesion.specs.declared.Mode.{Mode}
 use Rattle.pb_reply.specs.Replies.{Answer, Reply, answer_as, answer_of, refused, with_input, TellsReply}
 use Rattle.pb_audit.specs.Answers.{AnswersAudit, AnswersElection, AnswersPrices, AnswersRefutation, AnswersTidy, AnswersViolation, AuditRules, audit_reply, price_rules, read_reply, refutation_rules, tidy_answer, violation_rules}
 use Rattle.pb_audit.specs.Both.{AnswersBoth, Both, GroupAndDemand, StatesBoth, both_rules}

@@ -4,7 +4,7 @@ use Rattle.pb_election.specs.Instance.{Instance}
 use Rattle.pb_records.specs.Loading.{Delivery}
 use Rattle.pb_certificate.specs.declared.kind.Kind.{Kind}
 use Rattle.pb_certificate.specs.declared.kind.Kind.TheVariants as kind
-use Rattle.pb_price.specs.declared.Mode.{Mode}
+use Rattle.pb_cohesion.specs.declared.Mode.{Mode}
 use Rattle.pb_audit.specs.Explained.{AnswersExplained, explained_rules}
 use Rattle.pb_reply.specs.Certificates.{Certificate, OfPrices, OfRefutation, OfViolation, StatesCertificate, StatesKind, as_certificate, kind_in}
 use Rattle.pb_reply.specs.Inputs.{Stated}

@@ -3,7 +3,7 @@ use Rattle.std.proofs.Common.{◌≡◌, Bool, List, Option, refl, subst}
 use Rattle.std.specs.Prelude.{IfOk, Ok, Err}
 use Rattle.pb_election.specs.Instance.{Instance}
 use Rattle.pb_records.specs.Loading.{Delivery}
-use Rattle.pb_price.specs.declared.Mode.{Mode}
+use Rattle.pb_cohesion.specs.declared.Mode.{Mode}
 use Rattle.pb_reply.specs.Inputs.{FilesState, InTurn, Stated, StatesElection, StatesFile, StatesOutcome, StatesPrices, audited}
 use Rattle.pb_reply.specs.Replies.{Answer, Reply, TellsReply}
 use Rattle.pb_reply.specs.Turns.{gives, gives_file}

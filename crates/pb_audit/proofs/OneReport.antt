@@ -1,7 +1,7 @@
 -- A folder has one report.
 use Rattle.std.proofs.Common.{◌≡◌, ◌∙◌, Bool, List, [], ◌∷◌, Option, Some, None, ap, refl, subst, sym}
 use Rattle.pb_records.specs.Loading.{Delivery}
-use Rattle.pb_price.specs.declared.Mode.{Mode}
+use Rattle.pb_cohesion.specs.declared.Mode.{Mode}
 use Rattle.pb_audit.specs.Answers.{AnswersPrices, AnswersViolation}
 use Rattle.pb_reply.specs.Replies.{Reply}
 use Rattle.pb_audit.specs.OneAnswer.{JustOne}

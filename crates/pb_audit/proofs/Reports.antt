@@ -7,7 +7,7 @@ use Rattle.pb_audit.specs.Reports.{IsRestOf, EntryFiles, Finds, FindsEach, Found
 use Rattle.pb_audit.specs.declared.total.Ending.{Ending}
 use Rattle.pb_audit.specs.declared.total.FolderStatus.{FolderStatus}
 use Rattle.pb_reply.specs.Replies.{Answer, text_of}
-use Rattle.pb_price.specs.declared.Mode.{Mode}
+use Rattle.pb_cohesion.specs.declared.Mode.{Mode}
 use Rattle.pb_records.specs.Records.{Text}
 
 pub finds_more : (m : Mode) (entries : List EntryFiles) (all : List Found) (files : EntryFiles) (found : Found)

@@ -18,7 +18,7 @@ use Rattle.pb_cohesion.specs.declared.ViolationVerdict.{ViolationVerdict}
 use Rattle.pb_price.specs.Findings.{findings}
 use Rattle.pb_price.specs.First.{First, verdict_of}
 use Rattle.pb_price.specs.declared.Findings.{Findings}
-use Rattle.pb_price.specs.declared.Mode.{Mode}
+use Rattle.pb_cohesion.specs.declared.Mode.{Mode}
 use Rattle.pb_price.specs.declared.Verdict.{Verdict}
 use Rattle.pb_price.specs.declared.nearest.NearestGroup.{NearestGroup}
 use Rattle.pb_reply.specs.Replies.{Answer, Reply, answer_of, price_status, refused, refutation_status, violation_status, with_input}

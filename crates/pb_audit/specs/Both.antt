@@ -6,14 +6,17 @@ use Rattle.pb_certificate.specs.Prices.{Prices}
 use Rattle.pb_certificate.specs.declared.violations.measure.Measure.{Measure}
 use Rattle.pb_certificate.specs.declared.violations.measure.Measure.TheVariants.{ByCount}
 use Rattle.pb_cohesion.specs.Groups.{Violates}
+use Rattle.pb_cohesion.specs.FirstV.{FirstV, violation_verdict_of}
 use Rattle.pb_cohesion.specs.Satisfactions.{worth_by}
+use Rattle.pb_cohesion.specs.ViolationFindings.{violation_findings}
 use Rattle.pb_price.specs.OnGroups.{IsStrict}
 use Rattle.pb_price.specs.Supports.{Supports}
 use Rattle.pb_price.specs.Findings.{findings}
 use Rattle.pb_price.specs.First.{First, verdict_of}
 use Rattle.pb_price.specs.Told.{first_told}
 use Rattle.pb_price.specs.declared.Findings.{Findings}
-use Rattle.pb_price.specs.declared.Mode.{Mode}
+use Rattle.pb_cohesion.specs.declared.Mode.{Mode}
+use Rattle.pb_price.specs.declared.Verdict.{Verdict}
 use Rattle.pb_audit.specs.Answers.{AnswersAudit, AuditRules, price_reply, verdict_reply, violation_reply}
 use Rattle.pb_reply.specs.Replies.{Reply, with_input}
 use Rattle.pb_reply.specs.Inputs.{InTurn, Stated, StatesPrices, StatesViolation}
@@ -49,16 +52,22 @@ joined of_both first second = record {
   status = yes_where_both first.status second.status;
 }
 
+-- the object on both, by the verdict and the findings on the prices
+abbrev pub both_object : Mode → Instance → List Bool → Verdict → Findings → GroupAndDemand → Bool → Text
+both_object m e w v f claim all =
+    both_text m e w v f claim.0 (violation_verdict_of (FirstV (worth_by claim.0 e) e w claim.1 claim.2))
+    (violation_findings (worth_by claim.0 e) e w claim.1 claim.2) all
+
 -- the verdict on the prices, and then that on the group and its demand
 abbrev pub both_on : Mode → Instance → List Bool → Prices → GroupAndDemand → Reply
 both_on m e w p claim =
-    joined (both_text m e w (verdict_of (First m e w p)) (findings e w p) claim) (price_reply m e w p)
+    joined (both_object m e w (verdict_of (First m e w p)) (findings e w p) claim) (price_reply m e w p)
     (violation_reply e w claim)
 
 -- the verdict on a group and its demand below that which findings on prices tell
 abbrev pub beside : Mode → Findings → Instance → List Bool → GroupAndDemand → Reply
 beside m f e w claim =
-    joined (both_text m e w (verdict_of (first_told m f)) f claim)
+    joined (both_object m e w (verdict_of (first_told m f)) f claim)
     (verdict_reply m e w (verdict_of (first_told m f)) f None) (violation_reply e w claim)
 
 -- The status is yes exactly where the prices support the outcome and the group and its demand are a violation. Each

@@ -12,7 +12,7 @@ use Rattle.pb_cohesion.specs.ViolationFindings.{violation_findings}
 use Rattle.pb_price.specs.Findings.{findings}
 use Rattle.pb_price.specs.NearestGroup.{nearest_to}
 use Rattle.pb_price.specs.declared.Findings.{Findings}
-use Rattle.pb_price.specs.declared.Mode.{Mode}
+use Rattle.pb_cohesion.specs.declared.Mode.{Mode}
 use Rattle.pb_price.specs.First.{First, verdict_of}
 use Rattle.pb_price.specs.OnGroups.{groups_by}
 use Rattle.pb_price.specs.declared.OnGroups.{OnGroups}

@@ -2,7 +2,7 @@
 use Rattle.std.specs.Prelude.{Bool, List, Option, Some, None}
 use Rattle.pb_election.specs.Instance.{Instance}
 use Rattle.pb_records.specs.Loading.{Delivery}
-use Rattle.pb_price.specs.declared.Mode.{Mode}
+use Rattle.pb_cohesion.specs.declared.Mode.{Mode}
 use Rattle.pb_reply.specs.Inputs.{InTurn, Stated, audited}
 use Rattle.pb_reply.specs.Replies.{Answer, Reply}
 use Rattle.pb_reply.specs.Turns.{FileTurn, Turn}

@@ -2,3 +2,4 @@
 -- an entry's files deliver. What a command answers, and the report on such files, is said without it.
 pub mod Folders
 pub mod Certificates
+pub mod Told

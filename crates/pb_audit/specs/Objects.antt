@@ -1,10 +1,7 @@
 -- The JSON object of a reply, as a text. Proofs open one where it is made, and nowhere else.
-use Rattle.std.specs.Prelude.{Bool, List, Option, None, ℕ}
+use Rattle.std.specs.Prelude.{Bool, List, Option, None}
 use Rattle.pb_election.specs.Instance.{Instance}
 use Rattle.pb_certificate.specs.declared.violations.measure.Measure.{Measure}
-use Rattle.pb_cohesion.specs.FirstV.{FirstV, violation_verdict_of}
-use Rattle.pb_cohesion.specs.Satisfactions.{worth_by}
-use Rattle.pb_cohesion.specs.ViolationFindings.{violation_findings}
 use Rattle.pb_cohesion.specs.declared.GroupFigures.{GroupFigures}
 use Rattle.pb_cohesion.specs.declared.RefutationFindings.{RefutationFindings}
 use Rattle.pb_cohesion.specs.declared.RefutationVerdict.{RefutationVerdict}
@@ -17,7 +14,7 @@ use Rattle.pb_json.specs.Refutations.{refutation_json}
 use Rattle.pb_json.specs.Groups.{groups_json}
 use Rattle.pb_json.specs.Violations.{violation_json}
 use Rattle.pb_price.specs.declared.Findings.{Findings}
-use Rattle.pb_price.specs.declared.Mode.{Mode}
+use Rattle.pb_cohesion.specs.declared.Mode.{Mode}
 use Rattle.pb_price.specs.declared.Verdict.{Verdict}
 use Rattle.pb_price.specs.declared.nearest.NearestGroup.{NearestGroup}
 use Rattle.serde_json.specs.Written.{compact_text}
@@ -42,8 +39,7 @@ unfoldable pub groups_text : Measure → Instance → List Bool → List GroupFi
 groups_text m e w xs = compact_text (groups_json m e w xs)
 
 -- on prices and on a group and its demand, and whether both are a yes
-unfoldable pub both_text : Mode → Instance → List Bool → Verdict → Findings → Measure × List ℕ × List ℕ → Bool → Text
-both_text m e w v f claim all =
-    compact_text (both_json all (prices_json m e w v f None)
-    (violation_json claim.0 e w (violation_verdict_of (FirstV (worth_by claim.0 e) e w claim.1 claim.2))
-    (violation_findings (worth_by claim.0 e) e w claim.1 claim.2)))
+unfoldable pub both_text : Mode → Instance → List Bool → Verdict → Findings → Measure → ViolationVerdict
+    → ViolationFindings → Bool → Text
+both_text m e w v f k of_group found all =
+    compact_text (both_json all (prices_json m e w v f None) (violation_json k e w of_group found))

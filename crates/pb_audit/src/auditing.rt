@@ -1,20 +1,17 @@
 //! Auditing an election, an outcome and a certificate, whatever kind of certificate it is.
-ghost use Rattle.std.specs.Prelude.{◌≡◌, IfOk, Ok, option_map};
-ghost use Rattle.pb_audit.specs.Answers.{AnswersAudit, AuditRules};
-ghost use Rattle.pb_reply.specs.Inputs.{StatesElection};
+ghost use Rattle.std.specs.Prelude.{◌≡◌, IfOk};
+ghost use Rattle.pb_audit.specs.Answers.{AuditRules};
 ghost use Rattle.pb_reply.specs.Inside.Loaded.{lent};
 ghost use Rattle.pb_audit.specs.Inside.Certificates.{AnswersCertificate, IfTold, Promised};
 ghost use Rattle.pb_audit.specs.InTurn.{ReadsAudit};
 ghost use Rattle.pb_reply.specs.Replies.{AreJsonLines, TellsReply};
 ghost use Rattle.pb_reply.specs.declared.answer.Format.TheVariants.{Json, Lines};
 ghost use Rattle.pb_reply.specs.Turns.{file_turn, turn};
-ghost use Rattle.pb_election.specs.Outcome.{OutcomeFits};
-ghost use Rattle.pb_records.specs.Loading.{Delivery};
 
-use pb_election::{Election, Outcome};
+use pb_election::DecidedElection;
 use pb_reply::{
     Answer, AsFile, File, Format, FromReply, Given, Reply, Status, Unanswered, or_refusal,
-    outcome_of, push_notes, take_election, take_outcome,
+    push_notes, take_decided, take_election,
 };
 use std::alloc::{AllocError, Global};
 
@@ -29,30 +26,17 @@ pub(crate) trait Audit {
     // What a file states of it, the reply on that, and what the status of a reply promises.
     ghost rules: { Self → AuditRules Subject };
 
-    /// The reply on a certificate, for an election and an outcome that were accepted. The status of each reply of this
-    /// kind keeps its promise.
+    /// The reply on a certificate. The status of each reply of this kind keeps its promise. What is to be noted of it is
+    /// added to `notes`.
     fn reply_on(
         &self,
         alloc: Global,
-        election: &Election,
-        outcome: &Outcome,
+        decided: &DecidedElection,
         certificate: File<'_>,
+        notes: &mut Vec<String>,
     ) -> Result<Self::Told, Unanswered>
-        requires { OutcomeFits outcome.now election.now }
-        ensures reply { IfTold Self.Told.told (AnswersCertificate (rules self.now).states (rules self.now).reply election.now (outcome.now).marks (lent certificate.entry)) result }
+        ensures reply { IfTold Self.Told.told (AnswersCertificate (rules self.now).states (rules self.now).reply (decided.now).election (decided.now).outcome.marks (lent certificate.entry)) result }
         ensures promised { Promised (rules self.now) };
-
-    /// Adds the notes on what is told of a certificate for an election that was accepted. Most kinds have none.
-    fn push_notes_on(
-        &self,
-        _alloc: Global,
-        _notes: &mut Vec<String>,
-        _election: &Election,
-        _certificate: File<'_>,
-        _told: &Result<Self::Told, Unanswered>,
-    ) -> Result<(), AllocError> {
-        Ok(())
-    }
 }
 
 /// The answer in a format on an election, an outcome file where one is given, and a certificate, taken in this order.
@@ -103,23 +87,7 @@ fn audit_in_turn<A: Audit, E: Given, O: Given, C: Given>(
 {
     let election = take_election(alloc, election)?;
     push_notes(alloc, notes, &election)?;
-    let outcome = take_outcome(alloc, outcome, &election)?;
+    let decided = take_decided(alloc, election, outcome)?;
     let certificate = certificate.take(alloc)?;
-    let told = audit.reply_on(alloc, &election, &outcome, certificate.as_file());
-    audit.push_notes_on(alloc, notes, &election, certificate.as_file(), &told)?;
-    told
-}
-
-/// The reply for an election that was accepted.
-pub(crate) fn audit_for<A: Audit>(
-    alloc: Global,
-    audit: &A,
-    election: &Election,
-    outcome: Option<File<'_>>,
-    certificate: File<'_>,
-) -> Result<A::Told, Unanswered>
-    ensures { (file : Delivery) → StatesElection file (Ok election.now) → IfTold A.Told.told (AnswersAudit (A.rules audit.now) file (option_map lent outcome.entry) (lent certificate.entry)) result }
-{
-    let outcome = outcome_of(alloc, outcome, election)?;
-    audit.reply_on(alloc, election, &outcome, certificate)
+    audit.reply_on(alloc, &decided, certificate.as_file(), notes)
 }

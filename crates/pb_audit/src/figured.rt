@@ -2,7 +2,6 @@
 ghost use Rattle.std.specs.Prelude.{◌≡◌, All, IfOk};
 ghost use Rattle.pb_audit.specs.Figured.{FigureRules, FiguresPromise, IsFiguredReply, ReadsFigured};
 ghost use Rattle.pb_audit.specs.Inside.Certificates.{IfTold, Tells};
-ghost use Rattle.pb_election.specs.Outcome.{OutcomeFits};
 ghost use Rattle.pb_json.specs.Groups.{CanBeTold};
 ghost use Rattle.pb_reply.specs.Replies.{AreJsonLines, TellsReply};
 ghost use Rattle.pb_reply.specs.declared.answer.Format.TheVariants.{Json, Lines};
@@ -10,10 +9,10 @@ ghost use Rattle.pb_reply.specs.Turns.{file_turn, turn};
 
 use pb_certificate::Measure;
 use pb_cohesion::{GroupFigures, group_figures};
-use pb_election::{Election, Outcome};
+use pb_election::DecidedElection;
 use pb_reply::{
     Answer, Format, FromReply, Given, Reply, Status, Unanswered, or_refusal, push_limit_note,
-    push_notes, take_election, take_outcome,
+    push_notes, take_decided, take_election,
 };
 use std::alloc::{AllocError, Global};
 
@@ -29,18 +28,16 @@ pub(crate) trait FigureAudit {
     fn measure(&self) -> Measure
         ensures { result ≡ (rules self.now).measure };
 
-    /// The reply by the figures of all projects, for an election and an outcome that were accepted. The status of each
-    /// reply keeps its promise.
+    /// The reply by the figures of all projects. The status of each reply keeps its promise.
     fn reply_on(
         &self,
         alloc: Global,
-        election: &Election,
-        outcome: &Outcome,
-        figures: &[GroupFigures],
+        decided: &DecidedElection,
+        figures: Vec<GroupFigures>,
+        notes: &mut Vec<String>,
     ) -> Result<Self::Told, AllocError>
-        requires outcome { OutcomeFits outcome.now election.now }
-        requires figures { All (CanBeTold election.now) figures.now }
-        ensures reply { IfOk result (λ own. own ≡ Self.Told.told ((rules self.now).reply election.now (outcome.now).marks figures.now)) }
+        requires { All (CanBeTold (decided.now).election) figures.items }
+        ensures reply { IfOk result (λ own. own ≡ Self.Told.told ((rules self.now).reply (decided.now).election (decided.now).outcome.marks figures.items)) }
         ensures promised { FiguresPromise (rules self.now) };
 }
 
@@ -89,21 +86,21 @@ fn figured_in_turn<A: FigureAudit, E: Given, O: Given>(
 {
     let election = take_election(alloc, election)?;
     push_notes(alloc, notes, &election)?;
-    let outcome = take_outcome(alloc, outcome, &election)?;
-    push_limit_note(alloc, notes, &election, &outcome)?;
-    Ok(told_of(alloc, audit, &election, &outcome)?)
+    let decided = take_decided(alloc, election, outcome)?;
+    push_limit_note(alloc, notes, &decided)?;
+    Ok(told_of(alloc, audit, &decided, notes)?)
 }
 
 /// What is told of an election and an outcome that were accepted.
 fn told_of<A: FigureAudit>(
     alloc: Global,
     audit: &A,
-    election: &Election,
-    outcome: &Outcome,
+    decided: &DecidedElection,
+    notes: &mut Vec<String>,
 ) -> Result<A::Told, AllocError>
-    requires { OutcomeFits outcome.now election.now }
-    ensures { IfOk result (Tells A.Told.told (IsFiguredReply (A.rules audit.now) election.now (outcome.now).marks)) }
+    ensures { IfOk result (Tells A.Told.told (IsFiguredReply (A.rules audit.now) (decided.now).election (decided.now).outcome.marks)) }
 {
+    let (election, outcome) = (decided.election(), decided.outcome());
     let figures = group_figures(alloc, election, outcome, audit.measure())?;
-    audit.reply_on(alloc, election, outcome, &figures)
+    audit.reply_on(alloc, decided, figures, notes)
 }

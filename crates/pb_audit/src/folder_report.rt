@@ -22,6 +22,7 @@ use pb_price::Mode;
 use pb_reply::{Answer, Reply, Status, push_line};
 use serde_json::Value;
 use std::alloc::{AllocError, Global};
+use std::fmt::Write;
 use std::marker::Model;
 
 /// A report that takes one entry after the other, so that no more than one entry need be in memory. What is there of its
@@ -223,13 +224,10 @@ fn push_certificate(
 fn push_file(text: &mut String, name: &str, ending: &str, reply: &Reply) -> Result<(), AllocError>
     ensures { OnOk result (string_bytes text.new ≡ string_bytes text.old ++ text_of (file_lines (name.now ++ ending.now) reply.now)) }
 {
-    let Some(line) = reply.lines.first() else {
-        return Ok(());
-    };
-    text.push_str(name)?;
-    text.push_str(ending)?;
-    text.push_str(": ")?;
-    push_line(text, line)
+    match reply.lines.first() {
+        Some(line) => writeln!(text, "{name}{ending}: {line}"),
+        None => Ok(()),
+    }
 }
 
 /// Adds how the lines on the files of an entry end.

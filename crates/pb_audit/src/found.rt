@@ -1,20 +1,23 @@
 //! What is found of the files of one name.
 ghost use Rattle.std.specs.Prelude.{IfOk, Ok, None, option_map};
 ghost use Rattle.pb_audit.specs.Answers.{AnswersAudit};
-ghost use Rattle.pb_audit.specs.Inside.Folders.{files_of, found_as};
+ghost use Rattle.pb_audit.specs.Inside.Folders.{IsDecided, files_of, found_as};
+ghost use Rattle.pb_election.specs.Instance.{Instance};
 ghost use Rattle.pb_reply.specs.Inputs.{StatesElection};
-ghost use Rattle.pb_reply.specs.Inside.Loaded.{delivery_of};
+ghost use Rattle.pb_reply.specs.Inside.Loaded.{delivery_of, lent};
 ghost use Rattle.pb_audit.specs.Reports.{Finds, FindsCertificate};
 ghost use Rattle.pb_records.specs.Loading.{Delivery};
 
-use crate::auditing::{Audit, audit_for};
+use crate::auditing::Audit;
 use crate::folder::Entry;
 use crate::prices::PriceAudit;
 use crate::read::election_reply;
 use crate::violation::ViolationAudit;
-use pb_election::Election;
+use pb_election::{DecidedElection, Election};
 use pb_price::Mode;
-use pb_reply::{AsFile, Loaded, Reply, election_of, or_refusal, reply_why};
+use pb_reply::{
+    AsFile, File, Loaded, Reply, Unanswered, decided_of, election_of, or_refusal, reply_why,
+};
 use std::alloc::{AllocError, Global};
 
 /// The reply on an election, and on each of its certificates that is audited.
@@ -30,7 +33,7 @@ pub(crate) fn found_of(alloc: Global, entry: &Entry, mode: Mode) -> Result<Found
     ensures { IfOk result (λ found. Finds mode (files_of entry.now) (found_as entry.now found)) }
 {
     match election_of(alloc, entry.election.as_file()) {
-        Ok(election) => found_on(alloc, &election, entry, mode),
+        Ok(election) => found_on(alloc, election, entry, mode),
         Err(why) => Ok(Found {
             read: reply_why(alloc, &why)?,
             prices: None,
@@ -42,34 +45,51 @@ pub(crate) fn found_of(alloc: Global, entry: &Entry, mode: Mode) -> Result<Found
 /// What is found of an entry whose election is accepted.
 fn found_on(
     alloc: Global,
-    election: &Election,
+    election: Election,
     entry: &Entry,
     mode: Mode,
 ) -> Result<Found, AllocError>
-    ensures { StatesElection (delivery_of (entry.now).election) (Ok election.now) → IfOk result (λ found. Finds mode (files_of entry.now) (found_as entry.now found)) }
+    ensures { StatesElection (delivery_of (entry.now).election) (Ok election) → IfOk result (λ found. Finds mode (files_of entry.now) (found_as entry.now found)) }
 {
-    let read = election_reply(alloc, election)?;
-    let prices = certificate_found(alloc, &PriceAudit { mode }, election, &entry.prices)?;
-    let violation = certificate_found(alloc, &ViolationAudit, election, &entry.violation)?;
+    let read = election_reply(alloc, &election)?;
+    let decided = decided_of(alloc, election, None);
     Ok(Found {
         read,
-        prices,
-        violation,
+        prices: certificate_found(alloc, &PriceAudit { mode }, &decided, &entry.prices)?,
+        violation: certificate_found(alloc, &ViolationAudit, &decided, &entry.violation)?,
     })
 }
 
-/// The reply on a certificate of an election, where it is there.
+/// The reply on a certificate for an election with its outcome, where the certificate is there.
 fn certificate_found<A: Audit<Told = Reply>>(
     alloc: Global,
     audit: &A,
-    election: &Election,
+    decided: &Result<DecidedElection, Unanswered>,
     certificate: &Option<Loaded>,
 ) -> Result<Option<Reply>, AllocError>
-    ensures { (file : Delivery) → StatesElection file (Ok election.now) → IfOk result (FindsCertificate (AnswersAudit (A.rules audit.now) file None) (option_map delivery_of certificate.now)) }
+    ensures { (file : Delivery) (e : Instance) → StatesElection file (Ok e) → IsDecided e decided.now → IfOk result (FindsCertificate (AnswersAudit (A.rules audit.now) file None) (option_map delivery_of certificate.now)) }
 {
-    let Some(certificate) = certificate else {
-        return Ok(None);
-    };
-    let work = audit_for(alloc, audit, election, None, certificate.as_file());
-    Ok(Some(or_refusal(alloc, work)?))
+    match certificate {
+        Some(certificate) => Ok(Some(reply_for(alloc, audit, decided, certificate.as_file())?)),
+        None => Ok(None),
+    }
+}
+
+/// The reply on a certificate for an election with its outcome, or why that has none.
+fn reply_for<A: Audit<Told = Reply>>(
+    alloc: Global,
+    audit: &A,
+    decided: &Result<DecidedElection, Unanswered>,
+    certificate: File<'_>,
+) -> Result<Reply, AllocError>
+    ensures { (file : Delivery) (e : Instance) → StatesElection file (Ok e) → IsDecided e decided.now → IfOk result (AnswersAudit (A.rules audit.now) file None (lent certificate.entry)) }
+{
+    match decided {
+        Ok(decided) => {
+            let mut untold = Vec::new(alloc);
+            let work = audit.reply_on(alloc, decided, certificate, &mut untold);
+            or_refusal(alloc, work)
+        }
+        Err(why) => reply_why(alloc, why),
+    }
 }

@@ -1,17 +1,19 @@
 //! Whether a group of voters falls short, which an election and its outcome decide.
-ghost use Rattle.std.specs.Prelude.{◌≡◌, All, IfOk};
+ghost use Rattle.std.specs.Prelude.{◌≡◌, ◌++◌, All, IfOk, OnOk, map, string_bytes};
 ghost use Rattle.pb_audit.specs.Groups.{explained_groups_rules, group_margin_rules, groups_rules};
-ghost use Rattle.pb_audit.specs.Groups as spec;
-ghost use Rattle.pb_election.specs.Outcome.{OutcomeFits};
+ghost use Rattle.pb_audit.specs.Inside.Told as spec;
+ghost use Rattle.pb_cohesion.specs.Shown.{shown};
+ghost use Rattle.pb_explain.specs.ShownGroup.{shown_table};
 ghost use Rattle.pb_json.specs.Groups.{CanBeTold};
+ghost use Rattle.pb_reply.specs.Lines.{groups_line};
 
 use crate::figured::FigureAudit;
-use crate::objects::groups_object;
+use crate::report::{Audited, Report};
 use pb_certificate::Measure;
 use pb_cohesion::{GroupFigures, GroupsVerdict, first_short, shown_of};
-use pb_election::{Election, Outcome};
+use pb_election::{DecidedElection, Election};
 use pb_explain::{group_margins_text, push_shown_group};
-use pb_reply::{Answer, Reply, Status, groups_line, groups_status, one_line};
+use pb_reply::{Answer, Reply, Status, groups_line};
 use std::alloc::{AllocError, Global};
 
 /// The audit that answers whether a group falls short by a measure.
@@ -32,11 +34,15 @@ impl FigureAudit for GroupsAudit {
     fn reply_on(
         &self,
         alloc: Global,
-        election: &Election,
-        outcome: &Outcome,
-        figures: &[GroupFigures],
+        decided: &DecidedElection,
+        figures: Vec<GroupFigures>,
+        notes: &mut Vec<String>,
     ) -> Result<Reply, AllocError> {
-        groups_reply(alloc, self.measure, election, outcome, figures)
+        let groups = GroupsFound {
+            measure: self.measure,
+            figures,
+        };
+        Report::of(Audited::Groups(groups)).reply(alloc, decided, notes)
     }
 }
 
@@ -58,11 +64,15 @@ impl FigureAudit for ExplainGroupsAudit {
     fn reply_on(
         &self,
         alloc: Global,
-        election: &Election,
-        outcome: &Outcome,
-        figures: &[GroupFigures],
+        decided: &DecidedElection,
+        figures: Vec<GroupFigures>,
+        notes: &mut Vec<String>,
     ) -> Result<Reply, AllocError> {
-        explained_reply(alloc, self.measure, election, outcome, figures)
+        let groups = GroupsFound {
+            measure: self.measure,
+            figures,
+        };
+        Report::explaining(Audited::Groups(groups)).reply(alloc, decided, notes)
     }
 }
 
@@ -84,52 +94,54 @@ impl FigureAudit for GroupMarginAudit {
     fn reply_on(
         &self,
         alloc: Global,
-        election: &Election,
-        _outcome: &Outcome,
-        figures: &[GroupFigures],
+        decided: &DecidedElection,
+        figures: Vec<GroupFigures>,
+        _notes: &mut Vec<String>,
     ) -> Result<Answer<Status>, AllocError> {
         Ok(Answer {
-            text: group_margins_text(alloc, self.measure, election, figures)?,
+            text: group_margins_text(alloc, self.measure, decided.election(), &figures)?,
             status: Status::Yes,
         })
     }
 }
 
-/// The reply by the figures of all projects.
-#[tactic(auto, using(crate::proofs::FallingShort::verdict_names))]
-fn groups_reply(
-    alloc: Global,
-    measure: Measure,
-    election: &Election,
-    outcome: &Outcome,
-    figures: &[GroupFigures],
-) -> Result<Reply, AllocError>
-    requires outcome { OutcomeFits outcome.now election.now }
-    requires figures { All (CanBeTold election.now) figures.now }
-    ensures { IfOk result (λ reply. reply ≡ spec.groups_reply measure election.now (outcome.now).marks figures.now) }
-{
-    let verdict = GroupsVerdict::by(first_short(figures));
-    let line = groups_line(alloc, election, measure, verdict)?;
-    let object = groups_object(alloc, measure, election, outcome, figures)?;
-    one_line(alloc, line, object, groups_status(verdict))
+/// What was found of groups, by a measure: for each unfunded project with a supporter the group that is shown.
+#[derive(Drop)]
+pub(crate) struct GroupsFound {
+    pub(crate) measure: Measure,
+    pub(crate) figures: Vec<GroupFigures>,
 }
 
-/// The same with the table of the group that is shown.
-#[tactic(auto, using(crate::proofs::FallingShort::shown_can_be_told))]
-fn explained_reply(
-    alloc: Global,
-    measure: Measure,
-    election: &Election,
-    outcome: &Outcome,
-    figures: &[GroupFigures],
-) -> Result<Reply, AllocError>
-    requires outcome { OutcomeFits outcome.now election.now }
-    requires figures { All (CanBeTold election.now) figures.now }
-    ensures { IfOk result (λ reply. reply ≡ spec.explained_groups measure election.now (outcome.now).marks figures.now) }
-{
-    let shown = shown_of(figures);
-    let mut reply = groups_reply(alloc, measure, election, outcome, figures)?;
-    reply.lines.push(String::new(alloc))?;
-    push_shown_group(alloc, &mut reply.lines, measure, election, shown)?;
-    Ok(reply)
+impl GroupsFound {
+    /// The verdict.
+    pub(crate) fn verdict(&self) -> GroupsVerdict
+        ensures { result ≡ spec.groups_verdict self.now }
+    {
+        GroupsVerdict::by(first_short(&self.figures))
+    }
+
+    /// The line of the verdict.
+    #[tactic(auto, using(crate::proofs::FallingShort::verdict_names))]
+    pub(crate) fn line(&self, alloc: Global, election: &Election) -> Result<String, AllocError>
+        requires { All (CanBeTold election.now) (self.now).figures.items }
+        ensures { IfOk result (λ line. string_bytes line ≡ groups_line (self.now).measure election.now (spec.groups_verdict self.now)) }
+    {
+        groups_line(alloc, election, self.measure, self.verdict())
+    }
+
+    /// Adds the table of the group that is shown: the largest that falls short for the first project for which one does,
+    /// or else the closest of all.
+    #[tactic(auto, using(crate::proofs::FallingShort::shown_can_be_told))]
+    pub(crate) fn push_table(
+        &self,
+        alloc: Global,
+        lines: &mut Vec<String>,
+        election: &Election,
+    ) -> Result<(), AllocError>
+        requires { All (CanBeTold election.now) (self.now).figures.items }
+        ensures { OnOk result (map string_bytes lines.new.items ≡ map string_bytes lines.old.items ++ shown_table (self.now).measure election.now (shown (self.now).figures.items)) }
+    {
+        let shown = shown_of(&self.figures);
+        push_shown_group(alloc, lines, self.measure, election, shown)
+    }
 }

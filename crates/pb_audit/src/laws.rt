@@ -2,7 +2,7 @@
 
 ghost use Rattle.std.specs.Prelude.{◌≡◌, ◌∷◌, [], Bool, IsFalse, IsTrue, List, Option, codes};
 ghost use Rattle.pb_records.specs.Loading.{Delivery};
-ghost use Rattle.pb_price.specs.declared.Mode.{Mode};
+ghost use Rattle.pb_cohesion.specs.declared.Mode.{Mode};
 ghost use Rattle.pb_audit.specs.Answers.{AnswersPrices, AnswersRefutation};
 ghost use Rattle.pb_audit.specs.OneAnswer.{JustOne};
 ghost use Rattle.pb_audit.specs.Questions.{Answers};

@@ -19,6 +19,7 @@ mod prices;
 mod question;
 mod read;
 mod refutation;
+mod report;
 mod runs;
 mod tidy;
 mod total;

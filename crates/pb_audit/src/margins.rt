@@ -1,13 +1,12 @@
 //! The margins of a price certificate.
 ghost use Rattle.pb_audit.specs.Margins.{margin_rules};
 ghost use Rattle.pb_certificate.specs.Prices.{Prices};
-ghost use Rattle.pb_election.specs.Outcome.{OutcomeFits};
 ghost use Rattle.pb_audit.specs.Inside.Certificates.{FindsMargins};
 ghost use Rattle.pb_reply.specs.Inside.Loaded.{lent};
 ghost use Rattle.pb_reply.specs.Inside.Taking.{IfTaken};
 
 use crate::auditing::Audit;
-use pb_election::{Election, Outcome};
+use pb_election::DecidedElection;
 use pb_explain::margin_table_text;
 use pb_input::{InputFault, InputName};
 use pb_price::{Margins, margins_of};
@@ -28,13 +27,13 @@ impl Audit for MarginAudit {
     fn reply_on(
         &self,
         alloc: Global,
-        election: &Election,
-        outcome: &Outcome,
+        decided: &DecidedElection,
         certificate: File<'_>,
+        _notes: &mut Vec<String>,
     ) -> Result<Answer<Status>, Unanswered> {
-        let margins = price_margins(alloc, election, outcome, certificate)?;
+        let margins = price_margins(alloc, decided, certificate)?;
         Ok(Answer {
-            text: margin_table_text(alloc, election, &margins)?,
+            text: margin_table_text(alloc, decided.election(), &margins)?,
             status: Status::Yes,
         })
     }
@@ -43,15 +42,13 @@ impl Audit for MarginAudit {
 /// The figures of each project by the prices that a certificate states.
 fn price_margins(
     alloc: Global,
-    election: &Election,
-    outcome: &Outcome,
+    decided: &DecidedElection,
     certificate: File<'_>,
 ) -> Result<Margins, Unanswered>
-    requires { OutcomeFits outcome.now election.now }
-    ensures { IfTaken result (FindsMargins election.now (outcome.now).marks (lent certificate.entry)) }
+    ensures { IfTaken result (FindsMargins (decided.now).election (decided.now).outcome.marks (lent certificate.entry)) }
 {
     let bytes = bytes_of(InputName::Certificate, certificate)?;
-    match margins_of(alloc, election, outcome, bytes) {
+    match margins_of(alloc, decided.election(), decided.outcome(), bytes) {
         Ok(margins) => Ok(margins),
         Err(refusal) => Err(unanswered_at(
             InputName::Certificate,

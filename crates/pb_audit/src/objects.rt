@@ -1,26 +1,18 @@
-//! The JSON object of a reply.
-ghost use Rattle.std.specs.Prelude.{◌≡◌, ◌≤◌, All, IfOk, IfSome};
-ghost use Rattle.pb_audit.specs.Inside.Certificates.{CanBeTold};
+//! The JSON object of what was found.
+ghost use Rattle.std.specs.Prelude.{◌≡◌, All, IfOk};
+ghost use Rattle.pb_audit.specs.Inside.Told as told;
+ghost use Rattle.pb_audit.specs.Inside.Told.{GroupCanBeTold, PricesCanBeTold, WeightsCanBeTold};
 ghost use Rattle.pb_audit.specs.Objects as spec;
-ghost use Rattle.pb_certificate.specs.Violations.{ClaimFits};
-ghost use Rattle.pb_election.specs.Instance.{IsProject, IsSet, projects};
-ghost use Rattle.pb_election.specs.Outcome.{OutcomeFits, most_total};
-ghost use Rattle.pb_json.specs.Groups as of_groups;
-ghost use Rattle.pb_json.specs.Refutations as of_weights;
-ghost use Rattle.pb_json.specs.Violations as of_group;
-ghost use Rattle.pb_price.specs.First.{verdict_of};
-ghost use Rattle.pb_price.specs.Told.{first_told};
+ghost use Rattle.pb_json.specs.Groups.{CanBeTold};
 
-use pb_certificate::{Measure, Violation};
-use pb_cohesion::{
-    GroupFigures, RefutationFindings, RefutationVerdict, ViolationFindings, ViolationVerdict,
-    violation_findings,
-};
-use pb_election::{Election, Outcome};
+use crate::groups::GroupsFound;
+use crate::prices::PricesFound;
+use crate::refutation::WeightsFound;
+use crate::violation::GroupFound;
+use pb_election::{DecidedElection, Election};
 use pb_json::{
     Object, both_json, groups_json, prices_json, read_json, refutation_json, violation_json,
 };
-use pb_price::{Findings, Mode, NearestGroup};
 use std::alloc::{AllocError, Global};
 
 /// The object on an election that was read.
@@ -31,101 +23,91 @@ pub(crate) fn read_object(alloc: Global, election: &Election) -> Result<Object, 
     Ok(Object::new(object))
 }
 
-/// The object on prices in a mode, with the verdict that the findings tell, and the group that comes nearest to what a yes
-/// says of groups, where it was looked for.
+/// The object on prices.
 pub(crate) fn price_object(
     alloc: Global,
-    mode: Mode,
-    election: &Election,
-    outcome: &Outcome,
-    findings: &Findings,
-    nearest: Option<NearestGroup>,
+    decided: &DecidedElection,
+    prices: &PricesFound,
 ) -> Result<Object, AllocError>
-    requires outcome { OutcomeFits outcome.now election.now }
-    requires findings { CanBeTold election.now findings.now }
-    requires nearest { IfSome nearest (λ g. IsProject election.now g.project) }
-    ensures { IfOk result (λ object. object ≡ spec.price_text mode election.now (outcome.now).marks (verdict_of (first_told mode findings.now)) findings.now nearest) }
+    requires { PricesCanBeTold (decided.now).election prices.now }
+    ensures { IfOk result (λ object. object ≡ spec.price_text (prices.now).mode (decided.now).election (decided.now).outcome.marks (told.price_verdict prices.now) (prices.now).findings (prices.now).nearest) }
 {
-    let told = findings.verdict(mode);
-    let object = prices_json(alloc, mode, election, outcome, told, findings, nearest)?;
+    let PricesFound {
+        mode,
+        findings,
+        nearest,
+    } = prices;
+    let object = prices_json(alloc, *mode, decided, prices.verdict(), findings, *nearest)?;
     Ok(Object::new(object))
 }
 
-/// The object on a group and its demand, by this measure.
+/// The object on a group and its demand.
+#[tactic(auto, using(crate::proofs::Explained::group_verdict_named))]
 pub(crate) fn violation_object(
     alloc: Global,
-    measure: Measure,
-    election: &Election,
-    outcome: &Outcome,
-    verdict: ViolationVerdict,
-    findings: &ViolationFindings,
+    decided: &DecidedElection,
+    group: &GroupFound,
 ) -> Result<Object, AllocError>
-    requires outcome { OutcomeFits outcome.now election.now }
-    requires cost { (findings.now).cost ≤ most_total }
-    requires project { of_group.FindingsNameProject election.now findings.now }
-    requires verdict { of_group.VerdictNamesProject election.now verdict }
-    ensures { IfOk result (λ object. object ≡ spec.violation_text measure election.now (outcome.now).marks verdict findings.now) }
+    requires { GroupCanBeTold (decided.now).election group.now }
+    ensures { IfOk result (λ object. object ≡ spec.violation_text (group.now).measure (decided.now).election (decided.now).outcome.marks (group.now).verdict (group.now).findings) }
 {
-    let object = violation_json(alloc, measure, election, outcome, verdict, findings)?;
+    let object = violation_json(
+        alloc,
+        group.measure,
+        decided,
+        group.verdict,
+        &group.findings,
+    )?;
     Ok(Object::new(object))
 }
 
 /// The object on weights.
+#[tactic(auto, using(crate::proofs::Explained::weights_verdict_named))]
 pub(crate) fn refutation_object(
     alloc: Global,
-    election: &Election,
-    outcome: &Outcome,
-    verdict: RefutationVerdict,
-    findings: &RefutationFindings,
+    decided: &DecidedElection,
+    weights: &WeightsFound,
 ) -> Result<Object, AllocError>
-    requires outcome { OutcomeFits outcome.now election.now }
-    requires project { of_weights.FindingsNameProject election.now findings.now }
-    requires verdict { of_weights.VerdictNamesProject election.now verdict }
-    ensures { IfOk result (λ object. object ≡ spec.refutation_text election.now (outcome.now).marks verdict findings.now) }
+    requires { WeightsCanBeTold (decided.now).election weights.now }
+    ensures { IfOk result (λ object. object ≡ spec.refutation_text (decided.now).election (decided.now).outcome.marks (weights.now).verdict (weights.now).findings) }
 {
-    let object = refutation_json(alloc, election, outcome, verdict, findings)?;
+    let object = refutation_json(alloc, decided, weights.verdict, &weights.findings)?;
     Ok(Object::new(object))
 }
 
-/// The object on groups that fall short by this measure, by the figures of all projects.
+/// The object on groups that fall short.
 pub(crate) fn groups_object(
     alloc: Global,
-    measure: Measure,
-    election: &Election,
-    outcome: &Outcome,
-    figures: &[GroupFigures],
+    decided: &DecidedElection,
+    groups: &GroupsFound,
 ) -> Result<Object, AllocError>
-    requires outcome { OutcomeFits outcome.now election.now }
-    requires figures { All (of_groups.CanBeTold election.now) figures.now }
-    ensures { IfOk result (λ object. object ≡ spec.groups_text measure election.now (outcome.now).marks figures.now) }
+    requires { All (CanBeTold (decided.now).election) (groups.now).figures.items }
+    ensures { IfOk result (λ object. object ≡ spec.groups_text (groups.now).measure (decided.now).election (decided.now).outcome.marks (groups.now).figures.items) }
 {
-    let object = groups_json(alloc, measure, election, outcome, figures)?;
+    let object = groups_json(alloc, groups.measure, decided, &groups.figures)?;
     Ok(Object::new(object))
 }
 
 /// The object on prices and on a group and its demand, and whether both are a yes.
-#[tactic(auto, using(pb_reply::proofs::Culprits::violation_names_projects, crate::proofs::Explained::group_verdict_named))]
+#[tactic(auto, using(crate::proofs::Explained::group_verdict_named))]
 pub(crate) fn both_object(
     alloc: Global,
-    mode: Mode,
-    election: &Election,
-    outcome: &Outcome,
-    findings: &Findings,
-    violation: &Violation,
+    decided: &DecidedElection,
+    prices: &PricesFound,
+    group: &GroupFound,
     all: bool,
 ) -> Result<Object, AllocError>
-    requires outcome { OutcomeFits outcome.now election.now }
-    requires findings { CanBeTold election.now findings.now }
-    requires violation { ClaimFits violation.now election.now }
-    requires demand { IsSet 1 (projects election.now) (violation.now).demand }
-    ensures { IfOk result (λ object. object ≡ spec.both_text mode election.now (outcome.now).marks (verdict_of (first_told mode findings.now)) findings.now ((violation.now).measure, (violation.now).group, (violation.now).demand) all) }
+    requires prices { PricesCanBeTold (decided.now).election prices.now }
+    requires group { GroupCanBeTold (decided.now).election group.now }
+    ensures { IfOk result (λ object. object ≡ spec.both_text (prices.now).mode (decided.now).election (decided.now).outcome.marks (told.price_verdict prices.now) (prices.now).findings (group.now).measure (group.now).verdict (group.now).findings all) }
 {
-    let told = findings.verdict(mode);
-    let prices = prices_json(alloc, mode, election, outcome, told, findings, None)?;
-    let measure = violation.satisfaction();
-    let found = violation_findings(election, outcome, violation, &measure);
-    let verdict = found.verdict(election);
-    let group = violation_json(alloc, measure, election, outcome, verdict, &found)?;
-    let both = both_json(alloc, all, prices, group)?;
-    Ok(Object::new(both))
+    let PricesFound { mode, findings, .. } = prices;
+    let on_prices = prices_json(alloc, *mode, decided, prices.verdict(), findings, None)?;
+    let GroupFound {
+        measure,
+        verdict,
+        findings,
+    } = group;
+    let on_group = violation_json(alloc, *measure, decided, *verdict, findings)?;
+    Ok(Object::new(both_json(alloc, all, on_prices, on_group)?))
 }

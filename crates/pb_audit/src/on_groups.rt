@@ -10,7 +10,7 @@ use pb_certificate::{CertFault, Rows};
 use pb_election::Election;
 use pb_money::{cost_grains, payment_grains};
 use pb_price::OnGroups;
-use pb_reply::{File, Reply, Status, Unanswered, election_of};
+use pb_reply::{File, Unanswered, election_of};
 use std::alloc::{AllocError, Global};
 
 const SAYS_LITTLE: &str =
@@ -40,50 +40,19 @@ pub fn notes_on_yes(
     certificate: &[u8],
 ) -> Result<Vec<String>, AllocError> {
     let mut notes = Vec::new(alloc);
-    push_note_of(
-        alloc,
-        &mut notes,
-        groups_on_yes(alloc, election, certificate, false)?,
-    )?;
+    if let Some(said) = groups_on_yes(alloc, election, certificate, false)? {
+        push_note(alloc, &mut notes, said)?;
+    }
     Ok(notes)
 }
 
-/// Adds the note where a yes is told of a price certificate, and says little.
-pub(crate) fn push_note_on_yes(
-    alloc: Global,
-    notes: &mut Vec<String>,
-    election: &Election,
-    certificate: File<'_>,
-    told: &Result<Reply, Unanswered>,
-) -> Result<(), AllocError> {
-    match told {
-        Ok(reply) if reply.status == Status::Yes => {
-            push_note(alloc, notes, election, certificate)
-        }
-        _ => Ok(()),
-    }
-}
-
-/// Adds the note where a yes to a price certificate says little.
+/// Adds the note where this is what a yes says of groups.
 pub(crate) fn push_note(
     alloc: Global,
     notes: &mut Vec<String>,
-    election: &Election,
-    certificate: File<'_>,
+    said: OnGroups,
 ) -> Result<(), AllocError> {
-    let File::Bytes(bytes) = certificate else {
-        return Ok(());
-    };
-    // Whether little is said doesn't depend on whether Exhaustive was asked for.
-    push_note_of(alloc, notes, groups_by(alloc, election, bytes, false)?)
-}
-
-fn push_note_of(
-    alloc: Global,
-    notes: &mut Vec<String>,
-    said: Option<OnGroups>,
-) -> Result<(), AllocError> {
-    if said == Some(OnGroups::Little) {
+    if said == OnGroups::Little {
         notes.push(String::from_str(alloc, SAYS_LITTLE)?)?;
     }
     Ok(())

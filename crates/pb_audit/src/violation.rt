@@ -1,20 +1,24 @@
 //! Auditing violations: whether a group was treated worse than it deserves.
-ghost use Rattle.std.specs.Prelude.{◌≡◌, ◌≤◌, IfOk, IfSome};
-ghost use Rattle.pb_audit.specs.Answers as spec;
-ghost use Rattle.pb_audit.specs.Answers.{violation_reply, violation_rules};
+ghost use Rattle.std.specs.Prelude.{◌≡◌, ◌++◌, IfOk, OnOk, map, string_bytes};
+ghost use Rattle.pb_audit.specs.Answers.{violation_rules};
 ghost use Rattle.pb_audit.specs.Both.{GroupAndDemand};
-ghost use Rattle.pb_reply.specs.Named.{ViolationNamesProject};
+ghost use Rattle.pb_audit.specs.Inside.Told as spec;
+ghost use Rattle.pb_audit.specs.Inside.Told.{FindsGroup, GroupCanBeTold};
 ghost use Rattle.pb_certificate.specs.Violations.{ClaimFits};
-ghost use Rattle.pb_election.specs.Instance.{IsProject, IsSet, projects};
-ghost use Rattle.pb_election.specs.Outcome.{OutcomeFits, most_total};
+ghost use Rattle.pb_election.specs.Instance.{IsSet, projects};
+ghost use Rattle.pb_explain.specs.ViolationTable.{violation_table};
+ghost use Rattle.pb_reply.specs.Inside.Loaded.{lent};
+ghost use Rattle.pb_reply.specs.Inside.Taking.{IfTaken};
+ghost use Rattle.pb_reply.specs.Lines.{violation_line};
 
 use crate::auditing::Audit;
-use crate::objects::violation_object;
+use crate::report::{Audited, Report};
 use pb_certificate::{Measure, Violation};
 use pb_cohesion::{ViolationFindings, ViolationVerdict, violation_findings};
-use pb_election::{Election, Outcome};
+use pb_election::{DecidedElection, Election};
+use pb_explain::push_violation_table;
 use pb_input::InputName;
-use pb_reply::{File, Reply, Unanswered, one_line, violation_line, violation_of, violation_status};
+use pb_reply::{File, Reply, Unanswered, violation_line, violation_of};
 use std::alloc::{AllocError, Global};
 
 /// The audit of a violation.
@@ -31,51 +35,75 @@ impl Audit for ViolationAudit {
     fn reply_on(
         &self,
         alloc: Global,
-        election: &Election,
-        outcome: &Outcome,
+        decided: &DecidedElection,
         certificate: File<'_>,
+        notes: &mut Vec<String>,
     ) -> Result<Reply, Unanswered> {
-        let violation = violation_of(alloc, InputName::Certificate, certificate, election)?;
-        Ok(group_reply(alloc, election, outcome, &violation)?)
+        let group = group_in(alloc, decided, InputName::Certificate, certificate)?;
+        let report = Report::of(Audited::Violation(group));
+        Ok(report.reply(alloc, decided, notes)?)
     }
 }
 
-/// What is found of a group and its demand, as lines and as an object.
-#[tactic(auto, using(pb_reply::proofs::Culprits::violation_names_projects, crate::proofs::Explained::missing_names_projects))]
-pub(crate) fn group_reply(
-    alloc: Global,
-    election: &Election,
-    outcome: &Outcome,
-    violation: &Violation,
-) -> Result<Reply, AllocError>
-    requires outcome { OutcomeFits outcome.now election.now }
-    requires violation { ClaimFits violation.now election.now }
-    requires demand { IsSet 1 (projects election.now) (violation.now).demand }
-    ensures { IfOk result (λ reply. reply ≡ violation_reply election.now (outcome.now).marks ((violation.now).measure, (violation.now).group, (violation.now).demand)) }
-{
-    let measure = violation.satisfaction();
-    let findings = violation_findings(election, outcome, violation, &measure);
-    let verdict = findings.verdict(election);
-    group_found_reply(alloc, election, outcome, measure, verdict, &findings)
+/// What was found of a group and its demand, by a measure.
+#[derive(Drop)]
+pub(crate) struct GroupFound {
+    pub(crate) measure: Measure,
+    pub(crate) verdict: ViolationVerdict,
+    pub(crate) findings: ViolationFindings,
 }
 
-/// The verdict that findings on a group and its demand tell.
-#[tactic(auto, using(crate::proofs::Explained::group_verdict_named))]
-pub(crate) fn group_found_reply(
+impl GroupFound {
+    /// The line of the verdict.
+    pub(crate) fn line(&self, alloc: Global, election: &Election) -> Result<String, AllocError>
+        requires { GroupCanBeTold election.now self.now }
+        ensures { IfOk result (λ line. string_bytes line ≡ violation_line election.now (self.now).verdict) }
+    {
+        violation_line(alloc, election, self.verdict)
+    }
+
+    /// Adds the table of what each test comes to.
+    pub(crate) fn push_table(
+        &self,
+        alloc: Global,
+        lines: &mut Vec<String>,
+        election: &Election,
+    ) -> Result<(), AllocError>
+        requires { GroupCanBeTold election.now self.now }
+        ensures { OnOk result (map string_bytes lines.new.items ≡ map string_bytes lines.old.items ++ violation_table (self.now).measure election.now (self.now).findings) }
+    {
+        push_violation_table(alloc, lines, election, self.measure, &self.findings)
+    }
+}
+
+/// What is found of the group and the demand that a violation certificate states, as the input of this name.
+pub(crate) fn group_in(
     alloc: Global,
-    election: &Election,
-    outcome: &Outcome,
-    measure: Measure,
-    verdict: ViolationVerdict,
-    findings: &ViolationFindings,
-) -> Result<Reply, AllocError>
-    requires outcome { OutcomeFits outcome.now election.now }
-    requires cost { (findings.now).cost ≤ most_total }
-    requires project { IfSome (findings.now).unapproved.first (λ q. IsProject election.now q.1) }
-    requires verdict { ViolationNamesProject election.now verdict }
-    ensures { IfOk result (λ reply. reply ≡ spec.group_reply measure election.now (outcome.now).marks verdict findings.now) }
+    decided: &DecidedElection,
+    input: InputName,
+    certificate: File<'_>,
+) -> Result<GroupFound, Unanswered>
+    ensures taken { IfTaken result (FindsGroup input (decided.now).election (decided.now).outcome.marks (lent certificate.entry)) }
+    ensures told { IfOk result (GroupCanBeTold (decided.now).election) }
 {
-    let line = violation_line(alloc, election, verdict)?;
-    let object = violation_object(alloc, measure, election, outcome, verdict, findings)?;
-    one_line(alloc, line, object, violation_status(verdict))
+    let violation = violation_of(alloc, input, certificate, decided.election())?;
+    Ok(found_of_group(decided, &violation))
+}
+
+/// What is found of a group and its demand.
+#[tactic(auto, using(pb_reply::proofs::Culprits::violation_names_projects))]
+fn found_of_group(decided: &DecidedElection, violation: &Violation) -> GroupFound
+    requires violation { ClaimFits violation.now (decided.now).election }
+    requires demand { IsSet 1 (projects (decided.now).election) (violation.now).demand }
+    ensures found { result ≡ spec.group_found (decided.now).election (decided.now).outcome.marks ((violation.now).measure, (violation.now).group, (violation.now).demand) }
+    ensures told { GroupCanBeTold (decided.now).election result }
+{
+    let election = decided.election();
+    let measure = violation.satisfaction();
+    let findings = violation_findings(election, decided.outcome(), violation, &measure);
+    GroupFound {
+        measure,
+        verdict: findings.verdict(election),
+        findings,
+    }
 }

@@ -4,7 +4,7 @@ use Rattle.std.specs.Prelude.{Some, None}
 use Rattle.std.specs.Option.{option_map}
 use Rattle.pb_records.specs.Loading.{Delivery}
 use Rattle.pb_certificate.specs.declared.violations.measure.Measure.{Measure}
-use Rattle.pb_price.specs.declared.Mode.{Mode}
+use Rattle.pb_cohesion.specs.declared.Mode.{Mode}
 use Rattle.pb_reply.specs.Inside.Loaded.{lent}
 use Rattle.pb_reply.specs.Replies.{Answer}
 use Rattle.pb_reply.specs.Turns.{FileTurn, Turn, file_turn, gives, gives_file, lends, turn}

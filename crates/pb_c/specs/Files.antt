@@ -1,6 +1,6 @@
 -- Files and modes that C gives.
 use Rattle.std.specs.Prelude.{Bool, true, false, ℕ, List, Option, Some, None}
-use Rattle.pb_price.specs.declared.Mode.{Mode}
+use Rattle.pb_cohesion.specs.declared.Mode.{Mode}
 
 -- a file that is given or not
 abbrev pub given_file : Bool → List ℕ → Option (List ℕ)

@@ -1,7 +1,7 @@
 //! What a page is about: the files, and what was found of them.
 use crate::labels::Labels;
 use crate::saying::Words;
-use pb_election::{Election, Outcome};
+use pb_election::DecidedElection;
 use pb_figures::{Balance, Told, push_amount};
 use pb_price::NearestGroup;
 use pb_words::Sentence;
@@ -11,8 +11,7 @@ use std::alloc::AllocError;
 #[derive(Drop)]
 pub struct Case<'a> {
     pub words: Words,
-    pub election: &'a Election,
-    pub outcome: &'a Outcome,
+    pub decided: &'a DecidedElection,
     pub files: PageFiles,
     pub labels: Labels,
     /// The currency, as it stands behind amounts. Empty where the election's file names none.
@@ -49,15 +48,12 @@ pub struct InputFile {
 impl Case<'_> {
     /// Whether a project, which is numbered from 1, is funded.
     pub fn is_funded(&self, j: u32) -> bool {
-        self.outcome.fits(self.election)
-            && j != 0
-            && j <= self.election.projects()
-            && self.outcome.has(j)
+        j != 0 && j <= self.decided.election().projects() && self.decided.outcome().has(j)
     }
 
     /// What is said of all projects, or that there are none.
     pub fn or_no_projects(&self, sentence: Sentence) -> Sentence {
-        if self.election.projects() == 0 {
+        if self.decided.election().projects() == 0 {
             Sentence::NoProjects
         } else {
             sentence

@@ -146,11 +146,12 @@ impl Case<'_> {
     /// The id of a project, which is numbered from 1, as it is shown, or as much of a long one as any label shows.
     pub fn id(&self, j: u32) -> Result<String, AllocError> {
         let alloc = self.words.alloc;
-        if j == 0 || j > self.election.projects() {
+        let election = self.decided.election();
+        if j == 0 || j > election.projects() {
             return Ok(String::new(alloc));
         }
         // How a character is shown depends on the one behind it, and whether a text is cut on one more.
-        let id = front(alloc, self.election.id(j), MOST_IN_TITLE + 2)?;
+        let id = front(alloc, election.id(j), MOST_IN_TITLE + 2)?;
         visible(alloc, id.as_bytes())
     }
 

@@ -18,6 +18,32 @@ pub use satisfactions::{Cost, Count, Satisfaction};
 pub use short::{check_groups, first_short, group_figures, members_up_to, shown_of};
 pub use violations::check_violation;
 
+/// What is asked of a price system.
+#[derive(Clone, Copy, Debug, PartialEq, Eq)]
+pub struct Mode {
+    /// Whether the stable form is asked for in place of the plain one: S5 in place of C5.
+    pub stable: bool,
+    /// Whether no unfunded project may be affordable within the limit.
+    pub exhaustive: bool,
+    /// Whether the voter budgets of all voters together have to be more than the limit.
+    pub cover: bool,
+}
+
+impl Mode {
+    /// The plain form, with Exhaustive and without Cover.
+    pub const PLAIN: Mode = Mode {
+        stable: false,
+        exhaustive: true,
+        cover: false,
+    };
+
+    /// The stable form, with Exhaustive and without Cover.
+    pub const STABLE: Mode = Mode {
+        stable: true,
+        ..Mode::PLAIN
+    };
+}
+
 /// Whether a violation certificate proves a violation.
 #[derive(Clone, Copy, Debug, PartialEq, Eq)]
 pub enum ViolationVerdict {

@@ -7,7 +7,7 @@ use Rattle.pb_words.specs.declared.language.Language.{Language}
 use Rattle.clap.specs.declared.error.kind.ErrorKind.{ErrorKind}
 use Rattle.clap.specs.declared.error.kind.ErrorKind.TheVariants as kind
 use Rattle.pb_certificate.specs.declared.violations.measure.Measure.{Measure}
-use Rattle.pb_price.specs.declared.Mode.{Mode}
+use Rattle.pb_cohesion.specs.declared.Mode.{Mode}
 use Rattle.pb_command.specs.declared.task.Subject.{Subject}
 use Rattle.pb_command.specs.declared.task.Subject.TheVariants as subject
 use Rattle.pb_command.specs.declared.task.UsageFault.{UsageFault}

@@ -10,7 +10,7 @@ use Rattle.clap.specs.declared.error.kind.ErrorKind.TheVariants as kind
 use Rattle.pb_certificate.specs.declared.violations.measure.Measure.{Measure}
 use Rattle.pb_certificate.specs.declared.violations.measure.Measure.TheVariants.{ByCost, ByCount}
 use Rattle.pb_command.specs.Commands.{pbaudit}
-use Rattle.pb_price.specs.declared.Mode.{Mode}
+use Rattle.pb_cohesion.specs.declared.Mode.{Mode}
 use Rattle.pb_command.specs.declared.task.Inputs.{Inputs}
 use Rattle.pb_command.specs.declared.task.OutcomeInputs.{OutcomeInputs}
 use Rattle.pb_command.specs.declared.task.Subject.{Subject}

@@ -45,7 +45,7 @@ use crate::command::pbaudit_command;
 use clap::error::ErrorKind;
 use clap::{ArgMatches, Error};
 use pb_certificate::Measure;
-use pb_price::Mode;
+use pb_cohesion::Mode;
 use pb_words::Language;
 use std::alloc::{AllocError, Global};
 

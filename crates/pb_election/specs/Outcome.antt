@@ -33,3 +33,8 @@ OutcomeFits w e = length w.marks ≡ projects e
 -- the outcome is the one that the election's file states
 abbrev pub IsSelected : Funding → Instance → Type 0
 IsSelected w e = IsSomeAnd e.selected (λ marks. w ≡ funds marks e)
+
+-- an election with the outcome that was decided on
+pub record Decided : Type 0 where
+  pub election : Instance
+  pub outcome : Funding

@@ -3,6 +3,7 @@
 #![tactic(auto)]
 
 mod columns;
+mod decided;
 mod election;
 mod election_draft;
 mod guesses;
@@ -19,6 +20,7 @@ mod steps;
 mod votes;
 
 pub use columns::{UnusedColumns, column_named, field_in};
+pub use decided::DecidedElection;
 pub use election::Election;
 pub use election_draft::MOST_VOTERS;
 pub use markers::{is_named, marker_of};

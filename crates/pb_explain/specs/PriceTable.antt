@@ -4,7 +4,7 @@ use Rattle.pb_election.specs.Instance.{Instance, IsProject}
 use Rattle.pb_price.specs.declared.Comparison.{Comparison}
 use Rattle.pb_price.specs.declared.Finding.{Finding}
 use Rattle.pb_price.specs.declared.Findings.{Findings}
-use Rattle.pb_price.specs.declared.Mode.{Mode}
+use Rattle.pb_cohesion.specs.declared.Mode.{Mode}
 use Rattle.pb_records.specs.Records.{Text}
 use Rattle.pb_explain.specs.PriceWords as words
 use Rattle.pb_explain.specs.Rows.{opening, opening_if}

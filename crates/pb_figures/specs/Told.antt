@@ -17,7 +17,7 @@ use Rattle.pb_price.specs.Told.{first_told}
 use Rattle.pb_price.specs.declared.Comparison.{Comparison}
 use Rattle.pb_price.specs.declared.Finding.{Finding}
 use Rattle.pb_price.specs.declared.Findings.{Findings}
-use Rattle.pb_price.specs.declared.Mode.{Mode}
+use Rattle.pb_cohesion.specs.declared.Mode.{Mode}
 use Rattle.pb_price.specs.declared.ProjectMargins.{ProjectMargins}
 use Rattle.pb_price.specs.declared.Verdict.{Verdict}
 use Rattle.pb_price.specs.declared.Verdict.TheVariants as verdict

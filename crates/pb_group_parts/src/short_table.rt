@@ -89,7 +89,7 @@ fn up_to_rows(case: &Case<'_>, count: usize) -> Page {
 
 // Adds for how many unfunded projects nobody voted, where so many have a voter.
 fn push_unwanted(page: &mut Page, case: &Case<'_>, wanted: usize) {
-    let all = case.election.projects();
+    let all = case.decided.election().projects();
     let unfunded = (1..=all).filter(|j| !case.is_funded(*j)).count();
     let count = unfunded.saturating_sub(wanted) as u64;
     if unfunded == 0 {

@@ -58,7 +58,7 @@ fn how_weights(case: &Case<'_>) -> Sentence {
 // The projects that have a row.
 fn weighted_projects(case: &Case<'_>, figures: &RefutationFigures) -> Result<Vec<u32>, AllocError> {
     let mut weighted = Vec::new(case.words.alloc);
-    for k in 0..case.election.projects() {
+    for k in 0..case.decided.election().projects() {
         if figures.refutation.role(k + 1).is_some() {
             weighted.push(k + 1)?;
         }

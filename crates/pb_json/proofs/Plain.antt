@@ -25,7 +25,7 @@ use Rattle.pb_price.specs.declared.Comparison.{Comparison}
 use Rattle.pb_input.specs.declared.InputRefusal.{InputRefusal}
 use Rattle.pb_price.specs.declared.Finding.{Finding}
 use Rattle.pb_price.specs.declared.Findings.{Findings}
-use Rattle.pb_price.specs.declared.Mode.{Mode}
+use Rattle.pb_cohesion.specs.declared.Mode.{Mode}
 use Rattle.pb_price.specs.declared.PaymentFinding.{PaymentFinding}
 use Rattle.pb_price.specs.declared.Verdict.{Verdict}
 use Rattle.pb_price.specs.declared.nearest.NearestGroup.{NearestGroup}

@@ -6,7 +6,7 @@ ghost use Rattle.pb_json.specs.Elections as spec;
 
 use crate::members::{amount, count_or_null, push_value};
 use pb_cohesion::cost_of_funded;
-use pb_election::{Election, Outcome, UnusedColumns};
+use pb_election::{DecidedElection, Election, Outcome, UnusedColumns};
 use serde_json::{Value, json};
 use std::alloc::{AllocError, Global};
 
@@ -29,16 +29,11 @@ pub fn election_json(alloc: Global, election: &Election) -> Result<Value, AllocE
     })
 }
 
-/// What the funded projects cost, and how many they are. The outcome is to fit the election. An error means out of
-/// memory.
-pub fn outcome_json(
-    alloc: Global,
-    election: &Election,
-    outcome: &Outcome,
-) -> Result<Value, AllocError>
-    requires { OutcomeFits outcome.now election.now }
-    ensures { IfOk result (λ v. view v ≡ spec.outcome_json election.now (outcome.now).marks) }
+/// What the funded projects cost, and how many they are. An error means out of memory.
+pub fn outcome_json(alloc: Global, decided: &DecidedElection) -> Result<Value, AllocError>
+    ensures { IfOk result (λ v. view v ≡ spec.outcome_json (decided.now).election (decided.now).outcome.marks) }
 {
+    let (election, outcome) = (decided.election(), decided.outcome());
     json!(in alloc; {
         "cost": amount(alloc, cost_of_funded(election, outcome))?,
         "funded": funded(election, outcome),

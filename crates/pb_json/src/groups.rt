@@ -2,7 +2,6 @@
 ghost use Rattle.std.specs.Prelude.{◌≡◌, ◌≤◌, ◌*◌, ◌^◌, All, IfOk, IfSome};
 ghost use Rattle.serde_json.specs.View.{view};
 ghost use Rattle.pb_election.specs.Instance.{IsProject, most_voters};
-ghost use Rattle.pb_election.specs.Outcome.{OutcomeFits};
 ghost use Rattle.pb_json.specs.Groups as spec;
 ghost use Rattle.pb_json.specs.Members.{amount, or_null};
 
@@ -12,26 +11,24 @@ use crate::places::{Place, failed_json, project_json};
 use crate::violations::measure_word;
 use pb_certificate::Measure;
 use pb_cohesion::{GroupFigures, first_short, shown_of};
-use pb_election::{Election, Outcome};
+use pb_election::{DecidedElection, Election};
 use pb_price::NearestGroup;
 use serde_json::{Value, json};
 use std::alloc::{AllocError, Global};
 
 /// The answer on groups that fall short by this measure: whether one does, for which project first, and the figures of
 /// one group: after a no the largest that falls short for that project, and after a yes the one whose share of the limit
-/// covers most of what it has to come to. The figures are to be those of `group_figures`, and the outcome is to fit the
-/// election. An error means out of memory.
+/// covers most of what it has to come to. The figures are to be those of `group_figures`. An error means out of memory.
 pub fn groups_json(
     alloc: Global,
     measure: Measure,
-    election: &Election,
-    outcome: &Outcome,
+    decided: &DecidedElection,
     figures: &[GroupFigures],
 ) -> Result<Value, AllocError>
-    requires outcome { OutcomeFits outcome.now election.now }
-    requires figures { All (spec.CanBeTold election.now) figures.now }
-    ensures { IfOk result (λ v. view v ≡ spec.groups_json measure election.now (outcome.now).marks figures.now) }
+    requires figures { All (spec.CanBeTold (decided.now).election) figures.now }
+    ensures { IfOk result (λ v. view v ≡ spec.groups_json measure (decided.now).election (decided.now).outcome.marks figures.now) }
 {
+    let election = decided.election();
     let short = first_short(figures);
     json!(in alloc; {
         "answer": answer(is_yes(short)),
@@ -40,7 +37,7 @@ pub fn groups_json(
         "group": group_or_null(alloc, election, shown_of(figures))?,
         "kind": "groups",
         "measure": measure_word(measure),
-        "outcome": outcome_json(alloc, election, outcome)?,
+        "outcome": outcome_json(alloc, decided)?,
         "version": 1u32,
     })
 }

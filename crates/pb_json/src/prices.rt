@@ -2,7 +2,6 @@
 ghost use Rattle.std.specs.Prelude.{◌≡◌, IfOk, IfSome, OnOk, option_map};
 ghost use Rattle.pb_election.specs.Instance.{IsProject};
 ghost use Rattle.serde_json.specs.View.{members_view, view};
-ghost use Rattle.pb_election.specs.Outcome.{OutcomeFits};
 ghost use Rattle.pb_json.specs.Members.{with_all};
 ghost use Rattle.pb_json.specs.Prices as spec;
 
@@ -11,7 +10,7 @@ use crate::elections::{election_json, outcome_json};
 use crate::groups::nearest_or_null;
 use crate::members::{amount, answer, text_or_null};
 use crate::places::{Place, failed_json};
-use pb_election::{Election, Outcome};
+use pb_election::{DecidedElection, Election};
 use pb_price::{Failure, Findings, Mode, NearestGroup, OnGroups, Verdict};
 use serde_json::{Map, Value, json, put};
 use std::alloc::{AllocError, Global};
@@ -19,25 +18,24 @@ use std::alloc::{AllocError, Global};
 /// The answer on prices: the verdict on them in a mode, with what each condition comes to, also those behind the first
 /// that is false and those that the mode leaves out. Where it is a yes, it says what of groups, and where it was looked
 /// for also which unfunded project's supporters come nearest to that. The verdict, the findings and the project are to be
-/// of this election, and the outcome is to fit it. An error means out of memory.
+/// of this election. An error means out of memory.
 pub fn prices_json(
     alloc: Global,
     mode: Mode,
-    election: &Election,
-    outcome: &Outcome,
+    decided: &DecidedElection,
     verdict: Verdict,
     findings: &Findings,
     nearest: Option<NearestGroup>,
 ) -> Result<Value, AllocError>
-    requires outcome { OutcomeFits outcome.now election.now }
-    requires verdict { spec.VerdictNamesProject election.now verdict }
-    requires findings { spec.FindingsNameProjects election.now findings.now }
-    requires nearest { IfSome nearest (λ g. IsProject election.now g.project) }
-    ensures { IfOk result (λ v. view v ≡ spec.prices_json mode election.now (outcome.now).marks verdict findings.now nearest) }
+    requires verdict { spec.VerdictNamesProject (decided.now).election verdict }
+    requires findings { spec.FindingsNameProjects (decided.now).election findings.now }
+    requires nearest { IfSome nearest (λ g. IsProject (decided.now).election g.project) }
+    ensures { IfOk result (λ v. view v ≡ spec.prices_json mode (decided.now).election (decided.now).outcome.marks verdict findings.now nearest) }
 {
+    let election = decided.election();
     let mut members = Map::new(alloc);
     put_verdict(alloc, &mut members, election, mode, verdict, findings)?;
-    put_audited(alloc, &mut members, election, outcome, mode)?;
+    put_audited(alloc, &mut members, decided, mode)?;
     put_amounts(alloc, &mut members, findings)?;
     let conditions = conditions_json(alloc, mode, election, findings)?;
     put(&mut members, alloc, "conditions", conditions)?;
@@ -70,13 +68,12 @@ fn put_verdict(
 fn put_audited(
     alloc: Global,
     members: &mut Map<String, Value>,
-    election: &Election,
-    outcome: &Outcome,
+    decided: &DecidedElection,
     mode: Mode,
 ) -> Result<(), AllocError>
-    requires { OutcomeFits outcome.now election.now }
-    ensures { OnOk result (members_view members.new.entries ≡ with_all (spec.audited_members election.now (outcome.now).marks mode) (members_view members.old.entries)) }
+    ensures { OnOk result (members_view members.new.entries ≡ with_all (spec.audited_members (decided.now).election (decided.now).outcome.marks mode) (members_view members.old.entries)) }
 {
+    let election = decided.election();
     put(members, alloc, "election", election_json(alloc, election)?)?;
     put(
         members,
@@ -85,7 +82,7 @@ fn put_audited(
         Value::try_from_str(alloc, "prices")?,
     )?;
     put(members, alloc, "mode", mode_json(alloc, mode)?)?;
-    let outcome = outcome_json(alloc, election, outcome)?;
+    let outcome = outcome_json(alloc, decided)?;
     put(members, alloc, "outcome", outcome)?;
     put(members, alloc, "version", Value::from(1u32))
 }

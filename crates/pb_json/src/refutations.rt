@@ -2,7 +2,6 @@
 ghost use Rattle.std.specs.Prelude.{◌≡◌, IfOk, IfSome, option_map};
 ghost use Rattle.serde_json.specs.View.{view};
 ghost use Rattle.pb_election.specs.Instance.{IsProject};
-ghost use Rattle.pb_election.specs.Outcome.{OutcomeFits};
 ghost use Rattle.pb_json.specs.Members.{or_null};
 ghost use Rattle.pb_json.specs.Refutations as spec;
 
@@ -10,30 +9,29 @@ use crate::elections::{election_json, outcome_json};
 use crate::members::{amount, amount_or_null, answer, push_value, text_or_null};
 use crate::places::{Place, failed_json, project_json};
 use pb_cohesion::{MisplacedRows, RefutationFailure, RefutationFindings, RefutationVerdict};
-use pb_election::{Election, Outcome};
+use pb_election::{DecidedElection, Election};
 use serde_json::{Value, json};
 use std::alloc::{AllocError, Global};
 
 /// The answer on a refutation: the verdict, with what each test comes to, also those behind the first that fails. The
-/// verdict and the findings are to be of this election, and the outcome is to fit it. An error means out of memory.
+/// verdict and the findings are to be of this election. An error means out of memory.
 pub fn refutation_json(
     alloc: Global,
-    election: &Election,
-    outcome: &Outcome,
+    decided: &DecidedElection,
     verdict: RefutationVerdict,
     findings: &RefutationFindings,
 ) -> Result<Value, AllocError>
-    requires outcome { OutcomeFits outcome.now election.now }
-    requires verdict { spec.VerdictNamesProject election.now verdict }
-    requires findings { spec.FindingsNameProject election.now findings.now }
-    ensures { IfOk result (λ v. view v ≡ spec.refutation_json election.now (outcome.now).marks verdict findings.now) }
+    requires verdict { spec.VerdictNamesProject (decided.now).election verdict }
+    requires findings { spec.FindingsNameProject (decided.now).election findings.now }
+    ensures { IfOk result (λ v. view v ≡ spec.refutation_json (decided.now).election (decided.now).outcome.marks verdict findings.now) }
 {
+    let election = decided.election();
     json!(in alloc; {
         "answer": answer(is_yes(verdict)),
         "election": election_json(alloc, election)?,
         "failed": first_failed(alloc, election, verdict)?,
         "kind": "refutation",
-        "outcome": outcome_json(alloc, election, outcome)?,
+        "outcome": outcome_json(alloc, decided)?,
         "proves": text_or_null(alloc, proved(verdict))?,
         "stable": findings.counted_stable.is_some(),
         "tests": tests_json(alloc, election, findings)?,

@@ -2,7 +2,7 @@
 ghost use Rattle.std.specs.Prelude.{◌≡◌, ◌≤◌, IfOk, IfSome};
 ghost use Rattle.serde_json.specs.View.{view};
 ghost use Rattle.pb_election.specs.Instance.{IsProject};
-ghost use Rattle.pb_election.specs.Outcome.{OutcomeFits, most_total};
+ghost use Rattle.pb_election.specs.Outcome.{most_total};
 ghost use Rattle.pb_json.specs.Members.{or_null};
 ghost use Rattle.pb_json.specs.Violations as spec;
 
@@ -11,34 +11,32 @@ use crate::members::{amount, answer, push_value};
 use crate::places::{Place, failed_json, pair_or_null};
 use pb_certificate::Measure;
 use pb_cohesion::{MissingApprovals, ViolationFailure, ViolationFindings, ViolationVerdict};
-use pb_election::{Election, Outcome};
+use pb_election::{DecidedElection, Election};
 use serde_json::{Value, json};
 use std::alloc::{AllocError, Global};
 
 /// The answer on a violation certificate by its measure: the verdict, with what each test comes to, also those behind
-/// the first that fails. The verdict and the findings are to be of this election, and the outcome is to fit it. An error
-/// means out of memory.
+/// the first that fails. The verdict and the findings are to be of this election. An error means out of memory.
 pub fn violation_json(
     alloc: Global,
     measure: Measure,
-    election: &Election,
-    outcome: &Outcome,
+    decided: &DecidedElection,
     verdict: ViolationVerdict,
     findings: &ViolationFindings,
 ) -> Result<Value, AllocError>
-    requires outcome { OutcomeFits outcome.now election.now }
-    requires verdict { spec.VerdictNamesProject election.now verdict }
-    requires findings { spec.FindingsNameProject election.now findings.now }
+    requires verdict { spec.VerdictNamesProject (decided.now).election verdict }
+    requires findings { spec.FindingsNameProject (decided.now).election findings.now }
     requires cost { (findings.now).cost ≤ most_total }
-    ensures { IfOk result (λ v. view v ≡ spec.violation_json measure election.now (outcome.now).marks verdict findings.now) }
+    ensures { IfOk result (λ v. view v ≡ spec.violation_json measure (decided.now).election (decided.now).outcome.marks verdict findings.now) }
 {
+    let election = decided.election();
     json!(in alloc; {
         "answer": answer(is_yes(verdict)),
         "election": election_json(alloc, election)?,
         "failed": first_failed(alloc, election, verdict)?,
         "kind": "violation",
         "measure": measure_word(measure),
-        "outcome": outcome_json(alloc, election, outcome)?,
+        "outcome": outcome_json(alloc, decided)?,
         "tests": tests_json(alloc, election, findings)?,
         "version": 1u32,
     })

@@ -5,7 +5,7 @@ use Rattle.std.specs.Result.{IsErr, IsErrAnd}
 use Rattle.pb_election.specs.Instance.{Instance}
 use Rattle.pb_records.specs.Loading.{Delivery}
 use Rattle.pb_records.specs.Loading as delivery
-use Rattle.pb_price.specs.declared.Mode.{Mode}
+use Rattle.pb_cohesion.specs.declared.Mode.{Mode}
 use Rattle.pb_reply.specs.Inputs.{InTurn, Stated, StatesElection}
 use Rattle.pb_reply.specs.Turns.{FileTurn, Turn}
 use Rattle.pb_reply.specs.Replies.{Answer, answer_of}

@@ -3,7 +3,7 @@ use Rattle.std.proofs.Common.{◌≡◌, ◌∙◌, ℕ, Bool, List, Option, ap,
 use Rattle.std.specs.Prelude.{IfOk, IfSome, IsSomeAnd, Ok, Err, None, Some}
 use Rattle.pb_election.specs.Instance.{Instance}
 use Rattle.pb_records.specs.Loading.{Delivery}
-use Rattle.pb_price.specs.declared.Mode.{Mode}
+use Rattle.pb_cohesion.specs.declared.Mode.{Mode}
 use Rattle.pb_reply.specs.Inputs.{Stated, StatesElection}
 use Rattle.pb_reply.specs.Replies.{Answer, answer_of, price_status, refused, refutation_status, violation_status}
 use Rattle.pb_reply.specs.Inside.Taking.{AuditsOutcome}

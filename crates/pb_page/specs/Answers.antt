@@ -15,7 +15,7 @@ use Rattle.pb_price.specs.Findings.{findings}
 use Rattle.pb_price.specs.First.{First, verdict_of}
 use Rattle.pb_price.specs.Margins.{AreMargins}
 use Rattle.pb_price.specs.Told.{first_told}
-use Rattle.pb_price.specs.declared.Mode.{Mode}
+use Rattle.pb_cohesion.specs.declared.Mode.{Mode}
 use Rattle.pb_reply.specs.Inputs.{FilesState, Stated, audited}
 use Rattle.pb_reply.specs.Lines.{price_line, refutation_line, violation_line}
 use Rattle.pb_reply.specs.Replies.{Answer, answer_of, refused}

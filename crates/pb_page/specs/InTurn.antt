@@ -1,7 +1,7 @@
 -- What a page answers on its inputs in their turn.
 use Rattle.std.specs.Prelude.{Option, Some, None}
 use Rattle.pb_records.specs.Loading.{Delivery}
-use Rattle.pb_price.specs.declared.Mode.{Mode}
+use Rattle.pb_cohesion.specs.declared.Mode.{Mode}
 use Rattle.pb_reply.specs.Inputs.{InTurn, audited}
 use Rattle.pb_reply.specs.Replies.{Answer}
 use Rattle.pb_reply.specs.Turns.{FileTurn, Turn}

@@ -6,7 +6,7 @@ use Rattle.pb_election.specs.Instance.{Instance}
 use Rattle.pb_certificate.specs.Prices.{Prices}
 use Rattle.pb_price.specs.Findings.{findings}
 use Rattle.pb_price.specs.Margins.{AreMargins}
-use Rattle.pb_price.specs.declared.Mode.{Mode}
+use Rattle.pb_cohesion.specs.declared.Mode.{Mode}
 use Rattle.pb_reply.specs.Inputs.{Stated, StatesElection, StatesPrices}
 use Rattle.pb_reply.specs.Turns.{Turn}
 use Rattle.pb_reply.specs.Replies.{Answer}

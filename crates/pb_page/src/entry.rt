@@ -9,15 +9,15 @@ ghost use Rattle.pb_page.specs.Sums.{sums_of};
 ghost use Rattle.pb_page.specs.Taken as spec;
 ghost use Rattle.pb_page.specs.Taken.{RendersTold, sums_shown};
 
-use crate::input_files::{ElectionTaken, file_given, input_files, take_election, take_file};
+use crate::input_files::{ElectionFile, file_given, input_files, take_election, take_file};
 use crate::parts::whole_page;
 use crate::telling::{status_of, told_of};
 use pb_case::{Case, Labels, PageFiles, Words, currency_of, language_of};
-use pb_election::{Election, Outcome};
+use pb_election::DecidedElection;
 use pb_figures::{Style, Told, decimals_of};
 use pb_parts::nearest_of;
 use pb_price::Mode;
-use pb_reply::{Answer, AsFile, File, Given, Status, Unanswered, or_refusal, outcome_of};
+use pb_reply::{Answer, AsFile, File, Given, Status, Unanswered, decided_of, or_refusal};
 use pb_words::Language;
 use std::alloc::{AllocError, Global};
 
@@ -68,27 +68,20 @@ fn page_in_turn<E: Given, O: Given, C: Given>(
 {
     let taken = take_election(alloc, names.election, election)?;
     let given = take_file(alloc, outcome)?;
-    let funded = outcome_of(alloc, file_given(&given), &taken.election)?;
+    let decided = decided_of(alloc, taken.election, file_given(&given))?;
     let certificate = certificate.take(alloc)?;
     let style = Style {
         language,
-        decimals: decimals_of(&taken.election),
+        decimals: decimals_of(decided.election()),
     };
-    let told = told_of(
-        alloc,
-        &taken.election,
-        &funded,
-        certificate.as_file(),
-        mode,
-        style,
-    )?;
+    let told = told_of(alloc, &decided, certificate.as_file(), mode, style)?;
     let page = page_on(
         alloc,
         names,
-        taken,
+        taken.shown,
         file_given(&given),
         Some(certificate.as_file()),
-        &funded,
+        &decided,
         told,
     )?;
     Ok(page)
@@ -98,16 +91,16 @@ fn page_in_turn<E: Given, O: Given, C: Given>(
 pub(crate) fn page_on(
     alloc: Global,
     names: PageNames<'_>,
-    taken: ElectionTaken,
+    election: ElectionFile,
     outcome: Option<File<'_>>,
     certificate: Option<File<'_>>,
-    funded: &Outcome,
+    decided: &DecidedElection,
     told: Told,
 ) -> Result<Answer<Status>, AllocError>
-    ensures { IfOk result (RendersTold told (spec.sum_of taken.file ∷ sums_of (option_to_list (option_map lent outcome.entry) ++ option_to_list (option_map lent certificate.entry)))) }
+    ensures { IfOk result (RendersTold told (spec.sum_of election.file ∷ sums_of (option_to_list (option_map lent outcome.entry) ++ option_to_list (option_map lent certificate.entry)))) }
 {
-    let files = input_files(alloc, names, taken.file, outcome, certificate)?;
-    page_with(alloc, files, taken.labels, &taken.election, funded, told)
+    let files = input_files(alloc, names, election.file, outcome, certificate)?;
+    page_with(alloc, files, election.labels, decided, told)
 }
 
 // The page on what is shown of files that were accepted.
@@ -115,8 +108,7 @@ fn page_with(
     alloc: Global,
     files: PageFiles,
     labels: Labels,
-    election: &Election,
-    outcome: &Outcome,
+    decided: &DecidedElection,
     told: Told,
 ) -> Result<Answer<Status>, AllocError>
     ensures { IfOk result (RendersTold told (sums_shown files)) }
@@ -126,13 +118,12 @@ fn page_with(
             alloc,
             language: told.style.language,
         },
-        election,
-        outcome,
+        decided,
         files,
         currency: currency_of(alloc, &labels)?,
         names_in: language_of(&labels),
         labels,
-        nearest: nearest_of(alloc, election, outcome, &told)?,
+        nearest: nearest_of(alloc, decided, &told)?,
         told,
     };
     let page = whole_page(alloc, &case);

@@ -10,7 +10,7 @@ use crate::groups_told::groups_told;
 use crate::input_files::{file_given, take_election, take_file};
 use pb_certificate::Measure;
 use pb_figures::{Style, decimals_of};
-use pb_reply::{Answer, Given, Status, Unanswered, or_refusal, outcome_of};
+use pb_reply::{Answer, Given, Status, Unanswered, decided_of, or_refusal};
 use pb_words::Language;
 use std::alloc::{AllocError, Global};
 
@@ -48,12 +48,20 @@ fn groups_page_in_turn<E: Given, O: Given>(
 {
     let taken = take_election(alloc, names.election, election)?;
     let given = take_file(alloc, outcome)?;
-    let funded = outcome_of(alloc, file_given(&given), &taken.election)?;
+    let decided = decided_of(alloc, taken.election, file_given(&given))?;
     let style = Style {
         language,
-        decimals: decimals_of(&taken.election),
+        decimals: decimals_of(decided.election()),
     };
-    let told = groups_told(alloc, &taken.election, &funded, measure, style)?;
-    let page = page_on(alloc, names, taken, file_given(&given), None, &funded, told)?;
+    let told = groups_told(alloc, &decided, measure, style)?;
+    let page = page_on(
+        alloc,
+        names,
+        taken.shown,
+        file_given(&given),
+        None,
+        &decided,
+        told,
+    )?;
     Ok(page)
 }

@@ -1,6 +1,5 @@
 //! What is told of groups that fall short.
 ghost use Rattle.std.specs.Prelude.{◌≡◌, IfOk, string_bytes};
-ghost use Rattle.pb_election.specs.Outcome.{OutcomeFits};
 ghost use Rattle.pb_case.specs.Shown.{ShowsLine};
 ghost use Rattle.pb_figures.specs.Told.{verdict_on_groups};
 ghost use Rattle.pb_figures.specs.declared.told.CertificateFigures.TheVariants as found;
@@ -12,7 +11,7 @@ use crate::telling::costs_of;
 use pb_case::shown_line;
 use pb_certificate::Measure;
 use pb_cohesion::{cost_of_funded, group_figures, shown_of};
-use pb_election::{Election, Outcome};
+use pb_election::{DecidedElection, Election};
 use pb_figures::{CertificateFigures, ShortFigures, Style, Told};
 use pb_price::Mode;
 use pb_reply::groups_line;
@@ -21,15 +20,14 @@ use std::alloc::{AllocError, Global};
 /// What is told of groups that fall short by this measure.
 pub(crate) fn groups_told(
     alloc: Global,
-    election: &Election,
-    outcome: &Outcome,
+    decided: &DecidedElection,
     measure: Measure,
     style: Style,
 ) -> Result<Told, AllocError>
-    requires { OutcomeFits outcome.now election.now }
-    ensures told { IfOk result (TellsGroups measure election.now (outcome.now).marks) }
+    ensures told { IfOk result (TellsGroups measure (decided.now).election (decided.now).outcome.marks) }
     ensures style { IfOk result (λ t. t.style ≡ style) }
 {
+    let (election, outcome) = (decided.election(), decided.outcome());
     let groups = group_figures(alloc, election, outcome, measure)?;
     let figures = ShortFigures {
         measure,

@@ -21,6 +21,12 @@ use std::alloc::{AllocError, Global};
 #[derive(Drop)]
 pub(crate) struct ElectionTaken {
     pub(crate) election: Election,
+    pub(crate) shown: ElectionFile,
+}
+
+/// What the page shows of an election's file: what it says of itself, and its name and sum.
+#[derive(Drop)]
+pub(crate) struct ElectionFile {
     pub(crate) labels: Labels,
     pub(crate) file: InputFile,
 }
@@ -31,14 +37,16 @@ pub(crate) fn take_election<E: Given>(
     name: &[u8],
     input: &mut E,
 ) -> Result<ElectionTaken, Unanswered>
-    ensures given { IfOk result (λ taken. GivesElection (turn E.delivers input.old input.new) taken.election (spec.sum_of taken.file)) }
+    ensures given { IfOk result (λ taken. GivesElection (turn E.delivers input.old input.new) taken.election (spec.sum_of taken.shown.file)) }
     ensures unanswered { IfErr result (λ why. IfTaken {A = Instance} (Err why) (Gives StatesElection (turn E.delivers input.old input.new))) }
 {
     let taken = input.take(alloc)?;
     Ok(ElectionTaken {
         election: election_of(alloc, taken.as_file())?,
-        labels: its_labels(alloc, taken.as_file())?,
-        file: input_file(alloc, name, taken.as_file())?,
+        shown: ElectionFile {
+            labels: its_labels(alloc, taken.as_file())?,
+            file: input_file(alloc, name, taken.as_file())?,
+        },
     })
 }
 

@@ -1,7 +1,6 @@
 //! What is told of a certificate.
 ghost use Rattle.std.specs.Prelude.{◌≡◌, IfOk, map, string_bytes};
 ghost use Rattle.pb_election.specs.Instance.{IsSet, all_projects, cost_of, projects};
-ghost use Rattle.pb_election.specs.Outcome.{OutcomeFits};
 ghost use Rattle.pb_certificate.specs.Violations.{ClaimFits};
 ghost use Rattle.pb_reply.specs.Inside.Loaded.{lent};
 ghost use Rattle.pb_reply.specs.Inside.Taking.{IfTaken};
@@ -13,7 +12,7 @@ ghost use Rattle.pb_page.specs.Taken.{FindsFigures, TellsCertificate, status_of}
 use pb_case::shown_line;
 use pb_certificate::{Kind, Refutation, Violation};
 use pb_cohesion::{cost_of_funded, refutation_findings, violation_findings};
-use pb_election::{Election, Outcome};
+use pb_election::{DecidedElection, Election};
 use pb_figures::{
     CertificateFigures, PriceFigures, RefutationFigures, Style, Told, ViolationFigures, extremes_of,
 };
@@ -29,37 +28,34 @@ use std::alloc::{AllocError, Global};
 /// What is told of a certificate of any kind.
 pub(crate) fn told_of(
     alloc: Global,
-    election: &Election,
-    outcome: &Outcome,
+    decided: &DecidedElection,
     certificate: File<'_>,
     mode: Mode,
     style: Style,
 ) -> Result<Told, Unanswered>
-    requires { OutcomeFits outcome.now election.now }
-    ensures told { IfTaken result (TellsCertificate mode election.now (outcome.now).marks (lent certificate.entry)) }
+    ensures told { IfTaken result (TellsCertificate mode (decided.now).election (decided.now).outcome.marks (lent certificate.entry)) }
     ensures style { IfOk result (λ t. t.style ≡ style) }
 {
     match kind_in(alloc, certificate)? {
-        Kind::Prices => prices_told(alloc, election, outcome, certificate, mode, style),
-        Kind::Violation => violation_told(alloc, election, outcome, certificate, mode, style),
-        Kind::Refutation => refutation_told(alloc, election, outcome, certificate, mode, style),
+        Kind::Prices => prices_told(alloc, decided, certificate, mode, style),
+        Kind::Violation => violation_told(alloc, decided, certificate, mode, style),
+        Kind::Refutation => refutation_told(alloc, decided, certificate, mode, style),
     }
 }
 
 // What is told of prices.
 fn prices_told(
     alloc: Global,
-    election: &Election,
-    outcome: &Outcome,
+    decided: &DecidedElection,
     certificate: File<'_>,
     mode: Mode,
     style: Style,
 ) -> Result<Told, Unanswered>
-    requires { OutcomeFits outcome.now election.now }
-    ensures told { kind_in (lent certificate.entry) ≡ Kind.Prices → IfTaken result (TellsCertificate mode election.now (outcome.now).marks (lent certificate.entry)) }
+    ensures told { kind_in (lent certificate.entry) ≡ Kind.Prices → IfTaken result (TellsCertificate mode (decided.now).election (decided.now).outcome.marks (lent certificate.entry)) }
     ensures style { IfOk result (λ t. t.style ≡ style) }
 {
-    let figures = price_figures(alloc, election, outcome, certificate)?;
+    let election = decided.election();
+    let figures = price_figures(alloc, decided, certificate)?;
     let verdict = figures.findings.verdict(mode);
     Ok(Told {
         style,
@@ -72,13 +68,12 @@ fn prices_told(
 // What is found of the prices that a certificate states.
 fn price_figures(
     alloc: Global,
-    election: &Election,
-    outcome: &Outcome,
+    decided: &DecidedElection,
     certificate: File<'_>,
 ) -> Result<PriceFigures, Unanswered>
-    requires { OutcomeFits outcome.now election.now }
-    ensures { IfTaken result (FindsFigures election.now (outcome.now).marks (lent certificate.entry)) }
+    ensures { IfTaken result (FindsFigures (decided.now).election (decided.now).outcome.marks (lent certificate.entry)) }
 {
+    let (election, outcome) = (decided.election(), decided.outcome());
     let bytes = bytes_of(InputName::Certificate, certificate)?;
     match findings_and_margins_of(alloc, election, outcome, bytes) {
         Ok((findings, margins)) => match extremes_of(alloc, election, bytes, &findings) {
@@ -99,18 +94,17 @@ fn price_figures(
 // What is told of a group and its demand.
 fn violation_told(
     alloc: Global,
-    election: &Election,
-    outcome: &Outcome,
+    decided: &DecidedElection,
     certificate: File<'_>,
     mode: Mode,
     style: Style,
 ) -> Result<Told, Unanswered>
-    requires { OutcomeFits outcome.now election.now }
-    ensures told { kind_in (lent certificate.entry) ≡ Kind.Violation → IfTaken result (TellsCertificate mode election.now (outcome.now).marks (lent certificate.entry)) }
+    ensures told { kind_in (lent certificate.entry) ≡ Kind.Violation → IfTaken result (TellsCertificate mode (decided.now).election (decided.now).outcome.marks (lent certificate.entry)) }
     ensures style { IfOk result (λ t. t.style ≡ style) }
 {
+    let election = decided.election();
     let violation = violation_of(alloc, InputName::Certificate, certificate, election)?;
-    let (line, figures) = group_told(alloc, election, outcome, violation)?;
+    let (line, figures) = group_told(alloc, decided, violation)?;
     Ok(Told {
         style,
         mode,
@@ -122,15 +116,14 @@ fn violation_told(
 // The line and the figures of a group and its demand.
 fn group_told(
     alloc: Global,
-    election: &Election,
-    outcome: &Outcome,
+    decided: &DecidedElection,
     violation: Violation,
 ) -> Result<(String, ViolationFigures), AllocError>
-    requires outcome { OutcomeFits outcome.now election.now }
-    requires violation { ClaimFits violation election.now }
-    requires demand { IsSet 1 (projects election.now) violation.demand }
-    ensures { IfOk result (λ told. TellsGroup election.now (outcome.now).marks (violation.measure, violation.group, violation.demand) (string_bytes told.0) told.1) }
+    requires violation { ClaimFits violation (decided.now).election }
+    requires demand { IsSet 1 (projects (decided.now).election) violation.demand }
+    ensures { IfOk result (λ told. TellsGroup (decided.now).election (decided.now).outcome.marks (violation.measure, violation.group, violation.demand) (string_bytes told.0) told.1) }
 {
+    let (election, outcome) = (decided.election(), decided.outcome());
     let measure = violation.satisfaction();
     let findings = violation_findings(election, outcome, &violation, &measure);
     let verdict = findings.verdict(election);
@@ -150,18 +143,16 @@ fn group_told(
 // What is told of weights.
 fn refutation_told(
     alloc: Global,
-    election: &Election,
-    outcome: &Outcome,
+    decided: &DecidedElection,
     certificate: File<'_>,
     mode: Mode,
     style: Style,
 ) -> Result<Told, Unanswered>
-    requires { OutcomeFits outcome.now election.now }
-    ensures told { kind_in (lent certificate.entry) ≡ Kind.Refutation → IfTaken result (TellsCertificate mode election.now (outcome.now).marks (lent certificate.entry)) }
+    ensures told { kind_in (lent certificate.entry) ≡ Kind.Refutation → IfTaken result (TellsCertificate mode (decided.now).election (decided.now).outcome.marks (lent certificate.entry)) }
     ensures style { IfOk result (λ t. t.style ≡ style) }
 {
-    let refutation = refutation_of(alloc, certificate, election)?;
-    let (line, figures) = weights_told(alloc, election, outcome, refutation, mode.stable)?;
+    let refutation = refutation_of(alloc, certificate, decided.election())?;
+    let (line, figures) = weights_told(alloc, decided, refutation, mode.stable)?;
     Ok(Told {
         style,
         mode,
@@ -173,15 +164,14 @@ fn refutation_told(
 // The line and the figures of weights, by whether stable prices are asked about.
 fn weights_told(
     alloc: Global,
-    election: &Election,
-    outcome: &Outcome,
+    decided: &DecidedElection,
     refutation: Refutation,
     stable: bool,
 ) -> Result<(String, RefutationFigures), AllocError>
-    requires outcome { OutcomeFits outcome.now election.now }
-    requires refutation { WeightsFit refutation election.now }
-    ensures { IfOk result (λ told. TellsWeights stable election.now (outcome.now).marks refutation (string_bytes told.0) told.1) }
+    requires { WeightsFit refutation (decided.now).election }
+    ensures { IfOk result (λ told. TellsWeights stable (decided.now).election (decided.now).outcome.marks refutation (string_bytes told.0) told.1) }
 {
+    let (election, outcome) = (decided.election(), decided.outcome());
     let findings = refutation_findings(election, outcome, &refutation, stable);
     let verdict = findings.verdict();
     let line = shown_line(alloc, &refutation_line(alloc, election, verdict)?)?;

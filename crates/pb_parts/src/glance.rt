@@ -27,7 +27,8 @@ pub fn push_glance(page: &mut Page, case: &Case<'_>) {
 }
 
 fn push_tiles(page: &mut Page, case: &Case<'_>) {
-    let all = case.election.projects();
+    let election = case.decided.election();
+    let all = election.projects();
     let funded = (1..=all).filter(|j| case.is_funded(*j)).count();
     begin_tile(page, case, Sentence::ProjectsFunded);
     let fillings = Fillings::none(case.words.alloc)
@@ -35,12 +36,7 @@ fn push_tiles(page: &mut Page, case: &Case<'_>) {
         .and_number("all", u64::from(all));
     case.say(page, Sentence::SomeOfAll, &fillings);
     end_tile(page);
-    push_number_tile(
-        page,
-        case,
-        Sentence::Voters,
-        u64::from(case.election.voters()),
-    );
+    push_number_tile(page, case, Sentence::Voters, u64::from(election.voters()));
     push_money_tile(page, case, Sentence::Limit, Figure::Limit);
 }
 

@@ -1,6 +1,6 @@
 //! What a yes to prices says of every group of voters.
 use pb_case::{Case, Fillings};
-use pb_election::{Election, Outcome};
+use pb_election::DecidedElection;
 use pb_figures::{CertificateFigures, Told};
 use pb_markup::{Page, Tag};
 use pb_price::{NearestGroup, OnGroups, Verdict, nearest_to};
@@ -38,13 +38,12 @@ pub fn says_little(case: &Case<'_>) -> bool {
 /// The supporters of an unfunded project who come nearest to their share, where something is said of groups.
 pub fn nearest_of(
     alloc: Global,
-    election: &Election,
-    outcome: &Outcome,
+    decided: &DecidedElection,
     told: &Told,
 ) -> Result<Option<NearestGroup>, AllocError> {
     match on_groups(told) {
-        Some(said) if outcome.fits(election) => nearest_to(alloc, election, outcome, said),
-        _ => Ok(None),
+        Some(said) => nearest_to(alloc, decided.election(), decided.outcome(), said),
+        None => Ok(None),
     }
 }
 
@@ -70,7 +69,7 @@ fn push_nearest(page: &mut Page, case: &Case<'_>, group: &NearestGroup) {
         .and_scaled(
             "share",
             share_of(case, group),
-            MILLION * u64::from(case.election.voters()),
+            MILLION * u64::from(case.decided.election().voters()),
         )
         .and_scaled("cost", cost_of(case, group.project), MILLION)
         .and_scaled("funded", group.funded_for, MILLION);
@@ -83,12 +82,14 @@ fn push_nearest(page: &mut Page, case: &Case<'_>, group: &NearestGroup) {
 
 // The share of a group in the limit: of a millionth cut into as many parts as there are voters it is a whole number.
 fn share_of(case: &Case<'_>, group: &NearestGroup) -> u128 {
-    u128::from(group.supporters) * u128::from(case.election.limit().millionths())
+    let limit = case.decided.election().limit();
+    u128::from(group.supporters) * u128::from(limit.millionths())
 }
 
 fn cost_of(case: &Case<'_>, j: u32) -> u128 {
-    if j == 0 || j > case.election.projects() {
+    let election = case.decided.election();
+    if j == 0 || j > election.projects() {
         return 0;
     }
-    u128::from(case.election.cost(j).millionths())
+    u128::from(election.cost(j).millionths())
 }

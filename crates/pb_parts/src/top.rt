@@ -39,7 +39,7 @@ fn push_facts(page: &mut Page, case: &Case<'_>) {
     push_place(page, case);
     push_dates(page, case);
     push_fact(page, case, Sentence::Rule, "rule");
-    let voters = u128::from(case.election.voters());
+    let voters = u128::from(case.decided.election().voters());
     begin_fact(page, case, Sentence::Voters);
     page.text_made(grouped(case.words.alloc, voters));
     end_fact(page);

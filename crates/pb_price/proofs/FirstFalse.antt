@@ -14,7 +14,7 @@ use Rattle.pb_cohesion.proofs.Amounts.{int_lt-true}
 use Rattle.pb_cohesion.proofs.Culprits.{C1-iff, C2-iff, C3-iff, C4-iff, C5-iff, Exhaustive-iff, S5-iff, append-nil, filter-nil, first-none, if-nil, map-nil, when-nil, wrong}
 use Rattle.pb_price.specs.declared.Failure.{Failure}
 use Rattle.pb_price.specs.declared.Failure.TheVariants as failure
-use Rattle.pb_price.specs.declared.Mode.{Mode}
+use Rattle.pb_cohesion.specs.declared.Mode.{Mode}
 use Rattle.pb_price.specs.First.{First, failures_of, failures_of_budgets, failures_of_supporters}
 use Rattle.pb_price.specs.Supports.{Supports}
 use Rattle.pb_price.specs.FirstFalse.{AsksFor, FirstHold, IsFalseAt, IsFirstFalse, IsLowestPair, order}

@@ -5,7 +5,7 @@ use Rattle.pb_election.specs.Instance.{Instance, voters}
 use Rattle.pb_certificate.specs.Prices.{Prices}
 use Rattle.pb_cohesion.specs.Amounts.{beta, budget_limit}
 use Rattle.pb_price.specs.OnGroups.{IsCaseOf, groups_by, on_groups}
-use Rattle.pb_price.specs.declared.Mode.{Mode}
+use Rattle.pb_cohesion.specs.declared.Mode.{Mode}
 use Rattle.pb_price.specs.declared.OnGroups.TheVariants.{Strict, Weak, Little}
 
 -- the case, by the budgets and the limit

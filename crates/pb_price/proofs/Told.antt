@@ -14,7 +14,7 @@ use Rattle.pb_cohesion.proofs.Verdicts.{through}
 use Rattle.pb_price.specs.Findings.{findings}
 use Rattle.pb_price.specs.First.{First}
 use Rattle.pb_price.specs.Told.{TellWhatHolds, first_told}
-use Rattle.pb_price.specs.declared.Mode.{Mode}
+use Rattle.pb_cohesion.specs.declared.Mode.{Mode}
 
 -- a condition holds where its culprits are none
 none-iff : {A : Type 0} (xs : List A) (n : ℕ) → n ≡ length xs → (n ≡ 0) ↔ (xs ≡ [])

@@ -8,7 +8,7 @@ use Rattle.pb_cohesion.specs.Conditions.{C1, C2, C3, C4, Cover, Exhaustive, Feas
 use Rattle.pb_cohesion.specs.Outcome.{IsFunded, IsUnfunded, total}
 use Rattle.pb_price.specs.declared.Failure.{Failure}
 use Rattle.pb_price.specs.declared.Failure.TheVariants as failure
-use Rattle.pb_price.specs.declared.Mode.{Mode}
+use Rattle.pb_cohesion.specs.declared.Mode.{Mode}
 
 -- P holds of n, and of no lower number
 abbrev pub IsLowest : (ℕ → Type 0) → ℕ → Type 0

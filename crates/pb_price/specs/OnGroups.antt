@@ -5,7 +5,7 @@ use Rattle.pb_certificate.specs.Prices.{Prices}
 use Rattle.pb_cohesion.specs.Amounts.{beta, budget_limit}
 use Rattle.pb_cohesion.specs.Conditions.{Cover}
 use Rattle.pb_cohesion.specs.EveryGroup.{BudgetsAreTheLimit, NoGroupIsPassedOver, SharesAreWithinReach}
-use Rattle.pb_price.specs.declared.Mode.{Mode}
+use Rattle.pb_cohesion.specs.declared.Mode.{Mode}
 use Rattle.pb_price.specs.declared.OnGroups.{OnGroups}
 use Rattle.pb_price.specs.declared.OnGroups.TheVariants.{Strict, Weak, Little}
 

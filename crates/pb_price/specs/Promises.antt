@@ -7,7 +7,7 @@ use Rattle.pb_cohesion.specs.EveryGroup.{BudgetsAreWithinReach, BudgetsReachTheL
 use Rattle.pb_cohesion.specs.Refutations.{NothingRefutes, NothingRefutesStable}
 use Rattle.pb_cohesion.specs.Short.{SatisfiesEjrPlus}
 use Rattle.pb_price.specs.OnGroups.{HoldsOfGroups, IsStrict, groups_by}
-use Rattle.pb_price.specs.declared.Mode.{Mode}
+use Rattle.pb_cohesion.specs.declared.Mode.{Mode}
 
 -- What a yes to the prices p promises, where w says what is funded. A group of supporters is here one whose members all
 -- approve some unfunded project. Its bound is what that project costs and what was funded for the group, together.

@@ -3,7 +3,7 @@ use Rattle.std.specs.Prelude.{IsFalse, IsTrue, Bool, List}
 use Rattle.pb_election.specs.Instance.{Instance}
 use Rattle.pb_certificate.specs.Prices.{Prices}
 use Rattle.pb_cohesion.specs.Conditions.{C1, C2, C3, C4, C5, Cover, Exhaustive, Feasible, S5}
-use Rattle.pb_price.specs.declared.Mode.{Mode}
+use Rattle.pb_cohesion.specs.declared.Mode.{Mode}
 
 -- the prices support the outcome by all conditions that the mode asks for, in the plain or the stable form
 pub record Supports (m : Mode) (e : Instance) (w : List Bool) (p : Prices) : Type 0 where

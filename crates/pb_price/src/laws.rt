@@ -12,7 +12,7 @@ ghost use Rattle.pb_price.specs.Supports.{Supports};
 ghost use Rattle.pb_price.specs.Ranges.{AllSumsFit};
 ghost use Rattle.pb_price.specs.Told.{TellWhatHolds, first_told};
 ghost use Rattle.pb_price.specs.declared.Failure.{Failure};
-ghost use Rattle.pb_price.specs.declared.Mode.{Mode};
+ghost use Rattle.pb_cohesion.specs.declared.Mode.{Mode};
 
 /// The prices support the outcome exactly where no condition fails, whatever the mode asks for.
 pub fn supported_where_no_condition_fails()

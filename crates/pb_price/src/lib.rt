@@ -20,32 +20,7 @@ pub use checking::{check, check_rows};
 pub use explaining::findings_of;
 pub use figures::{findings_and_margins_of, margins_of};
 pub use nearest::{NearestGroup, nearest_to};
-
-/// What is asked of a price system.
-#[derive(Clone, Copy, Debug, PartialEq, Eq)]
-pub struct Mode {
-    /// Whether the stable form is asked for in place of the plain one: S5 in place of C5.
-    pub stable: bool,
-    /// Whether no unfunded project may be affordable within the limit.
-    pub exhaustive: bool,
-    /// Whether the voter budgets of all voters together have to be more than the limit.
-    pub cover: bool,
-}
-
-impl Mode {
-    /// The plain form, with Exhaustive and without Cover.
-    pub const PLAIN: Mode = Mode {
-        stable: false,
-        exhaustive: true,
-        cover: false,
-    };
-
-    /// The stable form, with Exhaustive and without Cover.
-    pub const STABLE: Mode = Mode {
-        stable: true,
-        ..Mode::PLAIN
-    };
-}
+pub use pb_cohesion::Mode;
 
 /// Whether a price system supports an outcome.
 #[derive(Clone, Copy, Debug, PartialEq, Eq)]

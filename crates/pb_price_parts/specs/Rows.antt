@@ -1,7 +1,7 @@
 -- The rows of the tables of projects on a page about prices, by an amount that stands in each.
 use Rattle.std.specs.Prelude.{⊤, ◌^◌, nat_lt, if◌then◌else◌, ℕ, ℤ, Bool, List, [], ◌∷◌, map, take}
 use Rattle.pb_cohesion.specs.declared.GroupFigures.{GroupFigures}
-use Rattle.pb_price.specs.declared.Mode.{Mode}
+use Rattle.pb_cohesion.specs.declared.Mode.{Mode}
 use Rattle.pb_price.specs.declared.ProjectMargins.{ProjectMargins}
 use Rattle.pb_markup.specs.InOrder.{HasParts}
 use Rattle.pb_markup.specs.Pieces.{Amount, Piece}

@@ -24,7 +24,7 @@ use Rattle.pb_price.specs.Told.{first_told}
 use Rattle.pb_price.specs.declared.Failure.{Failure}
 use Rattle.pb_price.specs.declared.Failure.TheVariants as failure
 use Rattle.pb_price.specs.declared.Findings.{Findings}
-use Rattle.pb_price.specs.declared.Mode.{Mode}
+use Rattle.pb_cohesion.specs.declared.Mode.{Mode}
 use Rattle.pb_price.specs.declared.Verdict.{Verdict}
 use Rattle.pb_json.proofs.Named.{among-projects, projects-are, unapproved-name}
 use Rattle.pb_price.proofs.Told.{tell-first}

@@ -18,7 +18,7 @@ use Rattle.pb_cohesion.proofs.RefutingStable.{none_stable_support, none_stable_w
 use Rattle.pb_cohesion.proofs.Verdicts.{through, violates-iff}
 use Rattle.pb_price.specs.First.{First, verdict_of}
 use Rattle.pb_price.specs.declared.Failure.{Failure}
-use Rattle.pb_price.specs.declared.Mode.{Mode}
+use Rattle.pb_cohesion.specs.declared.Mode.{Mode}
 use Rattle.pb_price.proofs.Groups.{all-promised, plain-no, stable-no}
 use Rattle.pb_price.proofs.FirstFalse.{supports-iff}
 use Rattle.pb_certificate.specs.declared.kind.Kind.{Kind}

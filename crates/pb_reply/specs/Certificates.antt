@@ -14,7 +14,7 @@ use Rattle.pb_cohesion.specs.FirstU.{refutation_verdict}
 use Rattle.pb_cohesion.specs.FirstV.{FirstV, violation_verdict_of}
 use Rattle.pb_cohesion.specs.Satisfactions.{worth_by}
 use Rattle.pb_price.specs.First.{First, verdict_of}
-use Rattle.pb_price.specs.declared.Mode.{Mode}
+use Rattle.pb_cohesion.specs.declared.Mode.{Mode}
 use Rattle.pb_reply.specs.Inputs.{Stated, StatesPrices, StatesRefutation, StatesViolation}
 use Rattle.pb_reply.specs.Replies.{price_status, refutation_status, violation_status}
 use Rattle.pb_input.specs.declared.InputName.TheVariants as name

@@ -16,7 +16,7 @@ pub use lines::{push_limit_note, push_line, push_notes, read_line};
 pub use loaded::{File, Loaded, bytes_of};
 pub use status::{Fault, Status, Unmet};
 pub use taking::{
-    election_of, kind_in, outcome_of, refutation_of, take_election, take_outcome, violation_of,
+    decided_of, election_of, kind_in, refutation_of, take_decided, take_election, violation_of,
 };
 pub use unanswered::{Unanswered, unanswered_at};
 pub use verdict_lines::{

@@ -1,11 +1,10 @@
 //! The lines of the answers.
 ghost use Rattle.std.specs.Prelude.{◌≡◌, ◌∷◌, ◌++◌, [], IfOk, OnOk, map, string_bytes};
-ghost use Rattle.pb_election.specs.Outcome.{OutcomeFits};
 ghost use Rattle.pb_reply.specs.Replies.{text_of};
 ghost use Rattle.pb_reply.specs.Lines as spec;
 
 use pb_cohesion::cost_of_funded;
-use pb_election::{Election, Outcome, UnusedColumns};
+use pb_election::{DecidedElection, Election, UnusedColumns};
 use pb_input::InputRefusal;
 use std::alloc::{AllocError, Global};
 
@@ -46,17 +45,16 @@ pub fn push_notes(
     push_column_notes(alloc, lines, election.unused_columns())
 }
 
-/// Adds the note that the funded projects cost more than the limit, where they do. The outcome is to fit the election.
+/// Adds the note that the funded projects cost more than the limit, where they do.
 pub fn push_limit_note(
     alloc: Global,
     lines: &mut Vec<String>,
-    election: &Election,
-    outcome: &Outcome,
+    decided: &DecidedElection,
 ) -> Result<(), AllocError>
-    requires { OutcomeFits outcome.now election.now }
-    ensures { OnOk result (map string_bytes lines.new.items ≡ map string_bytes lines.old.items ++ spec.limit_note election.now (outcome.now).marks) }
+    ensures { OnOk result (map string_bytes lines.new.items ≡ map string_bytes lines.old.items ++ spec.limit_note (decided.now).election (decided.now).outcome.marks) }
 {
-    if cost_of_funded(election, outcome) <= u128::from(election.limit().millionths()) {
+    let limit = decided.election().limit();
+    if cost_of_funded(decided.election(), decided.outcome()) <= u128::from(limit.millionths()) {
         return Ok(());
     }
     push_whole(lines, limit_words(alloc)?)

@@ -8,13 +8,13 @@ ghost use Rattle.pb_reply.specs.Inputs.{StatesElection, StatesOutcome, StatesRef
 ghost use Rattle.pb_reply.specs.Certificates.{kind_in};
 ghost use Rattle.pb_reply.specs.Inside.Loaded.{lent};
 ghost use Rattle.pb_reply.specs.Turns.{file_turn, turn};
-ghost use Rattle.pb_reply.specs.Inside.Taking.{AuditsOutcome, Gives, GivesOutcome, IfTaken, as_marks, claimed};
+ghost use Rattle.pb_reply.specs.Inside.Taking.{AuditsOutcome, Gives, GivesOutcome, IfTaken, as_marks, claimed, decided_as};
 
 use crate::given::{AsFile, Given};
 use crate::loaded::{File, bytes_of};
 use crate::unanswered::{Unanswered, unanswered_at};
 use pb_certificate::{Kind, Refutation, Violation, kind_of, read_outcome};
-use pb_election::{Election, Outcome};
+use pb_election::{DecidedElection, Election, Outcome};
 use pb_input::{InputFault, InputName};
 use std::alloc::{AllocError, Global};
 
@@ -77,8 +77,21 @@ pub fn refutation_of(
     }
 }
 
+/// The election with the outcome that is audited: that of the outcome file where one is given, and else its own.
+pub fn decided_of(
+    alloc: Global,
+    election: Election,
+    file: Option<File<'_>>,
+) -> Result<DecidedElection, Unanswered>
+    ensures taken { IfTaken (decided_as result) (AuditsOutcome election (option_map lent file.entry)) }
+    ensures election { IfOk result (λ decided. decided.election ≡ election) }
+{
+    let outcome = outcome_of(alloc, file, &election)?;
+    Ok(DecidedElection::new(election, outcome))
+}
+
 /// The outcome that is audited: that of the outcome file where one is given, and else the election's own.
-pub fn outcome_of(
+fn outcome_of(
     alloc: Global,
     file: Option<File<'_>>,
     election: &Election,
@@ -123,9 +136,23 @@ pub fn take_election<G: Given>(alloc: Global, input: &mut G) -> Result<Election,
     election_of(alloc, taken.as_file())
 }
 
+/// The election with the outcome that is audited, with an outcome file whose turn has come, where one is given. What was
+/// taken of it is let go.
+pub fn take_decided<G: Given>(
+    alloc: Global,
+    election: Election,
+    input: &mut Option<G>,
+) -> Result<DecidedElection, Unanswered>
+    ensures taken { IfTaken (decided_as result) (GivesOutcome election (file_turn G.delivers input.old input.new)) }
+    ensures election { IfOk result (λ decided. decided.election ≡ election) }
+{
+    let outcome = take_outcome(alloc, input, &election)?;
+    Ok(DecidedElection::new(election, outcome))
+}
+
 /// The outcome that is audited, with an outcome file whose turn has come, where one is given. What was taken of it is
 /// let go.
-pub fn take_outcome<G: Given>(
+fn take_outcome<G: Given>(
     alloc: Global,
     input: &mut Option<G>,
     election: &Election,

@@ -11,7 +11,7 @@ use Rattle.std.specs.declared.string.String.{String}
 use Rattle.pb_audit.proofs.Reports.{is_rest_of, rest_of}
 use Rattle.pb_audit.specs.Reports.{EntryFiles, HasTaken, Progress, ReportOf}
 use Rattle.pb_audit.specs.declared.total.FolderStatus.{FolderStatus}
-use Rattle.pb_price.specs.declared.Mode.{Mode}
+use Rattle.pb_cohesion.specs.declared.Mode.{Mode}
 use Rattle.pb_records.specs.Loading.{AppendsFront, Delivery, IsFlushed, Rises}
 use Rattle.pb_records.specs.Records.{Text}
 use Rattle.pb_records.specs.declared.loading.Sink.{Ghosts as Sink}

@@ -1,7 +1,7 @@
 -- How a run on a folder ends that is listed, by how its report was written.
 use Rattle.std.proofs.Common.{Bool, List, refl, Result, Ok, Err, inl, inr}
 use Rattle.pb_audit.specs.declared.total.FolderStatus.{FolderStatus}
-use Rattle.pb_price.specs.declared.Mode.{Mode}
+use Rattle.pb_cohesion.specs.declared.Mode.{Mode}
 use Rattle.pb_records.specs.Loading.{Delivery}
 use Rattle.pb_records.specs.Records.{Text}
 use Rattle.pb_records.specs.declared.loading.Sink.{Ghosts as Sink}

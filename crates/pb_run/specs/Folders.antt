@@ -7,7 +7,7 @@ use Rattle.pb_audit.specs.declared.total.FolderStatus.{FolderStatus}
 use Rattle.pb_input.specs.declared.InputFault.TheVariants as fault
 use Rattle.pb_input.specs.declared.InputName.TheVariants as name
 use Rattle.pb_input.specs.declared.InputRefusal.{InputRefusal}
-use Rattle.pb_price.specs.declared.Mode.{Mode}
+use Rattle.pb_cohesion.specs.declared.Mode.{Mode}
 use Rattle.pb_records.specs.Loading.{Delivery}
 use Rattle.pb_records.specs.Records.{Text}
 use Rattle.pb_reply.specs.Inputs.{refusal_of}

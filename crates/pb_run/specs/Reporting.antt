@@ -4,7 +4,7 @@ use Rattle.std.specs.Prelude.{◌≡◌, ◌⊎◌, ◌++◌, [], Bool, true, fa
 use Rattle.std.specs.Io.KnownBytes.{Appends}
 use Rattle.pb_audit.specs.Reports.{EntryFiles, HasTaken, Progress}
 use Rattle.pb_audit.specs.declared.total.FolderStatus.{FolderStatus}
-use Rattle.pb_price.specs.declared.Mode.{Mode}
+use Rattle.pb_cohesion.specs.declared.Mode.{Mode}
 use Rattle.pb_records.specs.Loading.{AppendsFront, Delivery, IsFlushed, Rises}
 use Rattle.pb_records.specs.Records.{Text}
 use Rattle.pb_records.specs.declared.loading.Sink.{Ghosts as Sink}

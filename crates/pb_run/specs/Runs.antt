@@ -6,7 +6,7 @@ use Rattle.pb_audit.specs.declared.total.FolderStatus.{FolderStatus}
 use Rattle.pb_command.specs.Commands.{pbaudit}
 use Rattle.pb_command.specs.Tasks.{Asked, TaskOf, value_fault}
 use Rattle.pb_command.specs.Tasks as task
-use Rattle.pb_price.specs.declared.Mode.{Mode}
+use Rattle.pb_cohesion.specs.declared.Mode.{Mode}
 use Rattle.pb_records.specs.Loading.{Delivery}
 use Rattle.pb_records.specs.Records.{Text}
 use Rattle.pb_records.specs.declared.loading.Sink.{Ghosts as Sink}

@@ -6,9 +6,9 @@ ghost use Rattle.pb_run.specs.Asking.{AnswersAt, AnswersOn, HandsAll, HandsOutco
 use crate::files::Files;
 use pb_audit::{Answer, Format, Question, Status, answer};
 use pb_certificate::Measure;
+use pb_cohesion::Mode;
 use pb_command::{Inputs, OutcomeInputs, Task};
 use pb_page::{Language, PageNames, groups_page_answer, page_answer};
-use pb_price::Mode;
 use pb_reply::Given;
 use std::alloc::{AllocError, Global};
 

@@ -21,9 +21,9 @@ use pb_audit::{
     Answer, Entry, Fault, FolderReport, FolderStatus, InputFault, InputName, InputRefusal, Loaded,
     Status,
 };
+use pb_cohesion::Mode;
 use pb_election::Sink;
 use pb_hints::push_shown;
-use pb_price::Mode;
 use pb_reply::{Given, refused};
 use std::alloc::{AllocError, Global};
 use std::io::{IsTerminal, Write};

@@ -12,7 +12,7 @@ use Rattle.pb_price.specs.Margins.{AreMargins}
 use Rattle.pb_price.specs.declared.Findings.{Findings}
 use Rattle.pb_price.specs.declared.Margins.{Margins}
 use Rattle.pb_price.specs.Told.{first_told}
-use Rattle.pb_price.specs.declared.Mode.{Mode}
+use Rattle.pb_cohesion.specs.declared.Mode.{Mode}
 use Rattle.pb_reply.specs.Inputs.{Stated, StatesPrices}
 use Rattle.pb_reply.specs.Named.{PricesNameProject}
 use Rattle.pb_reply.specs.Replies.{Answer, Reply, with_input}
@@ -46,20 +46,19 @@ abbrev pub Promised : {A : Type 0} → AuditRules A → Type 0
 Promised {A} rules = (e : Instance) (w : List Bool) (d : Delivery) (a : A) → rules.states e d (Ok a)
     → rules.promises (rules.reply e w a).status e w a
 
--- what is made of the prices that a certificate states, as the input of this name
-abbrev pub MadeOfPrices : {A : Type 0} → (Prices → A) → InputName → Instance → Delivery → Stated A → Type 0
-MadeOfPrices make input e certificate (Ok a) = (p : Prices)
-    × (StatesPrices input e certificate (Ok p) × (a ≡ make p))
-MadeOfPrices make input e certificate (Err r) = StatesPrices input e certificate (Err r)
+-- what is made of what a certificate states
+abbrev pub MadeOf : {S A : Type 0} → (S → A) → (Instance → Delivery → Stated S → Type 0) → Instance → Delivery → Stated A → Type 0
+MadeOf {S} make states e certificate (Ok a) = (s : S) × (states e certificate (Ok s) × (a ≡ make s))
+MadeOf make states e certificate (Err r) = states e certificate (Err r)
 
--- their canonical text
+-- the canonical text of the prices that it states
 abbrev pub TidiesPrices : Instance → Delivery → Stated (Answer Status) → Type 0
 TidiesPrices e certificate stated =
-    MadeOfPrices (λ p. tidy_answer (Ok e) (Ok p)) name.Certificate e certificate stated
+    MadeOf (λ p. tidy_answer (Ok e) (Ok p)) (StatesPrices name.Certificate) e certificate stated
 
 -- what each condition comes to by them
 abbrev pub FindsPrices : InputName → Instance → List Bool → Delivery → Stated Findings → Type 0
-FindsPrices input e w certificate stated = MadeOfPrices (λ p. findings e w p) input e certificate stated
+FindsPrices input e w certificate stated = MadeOf (λ p. findings e w p) (StatesPrices input) e certificate stated
 
 -- Findings on prices can be told, as lines and as an object: they have a unit, and the projects that they name, and the
 -- verdict in any mode, are those of the election.

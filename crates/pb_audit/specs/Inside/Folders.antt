@@ -1,7 +1,11 @@
 -- The entries of a folder, by what is delivered of their files.
-use Rattle.std.specs.Prelude.{string_bytes}
+use Rattle.std.specs.Prelude.{◌≡◌, IfOk, None, Result, string_bytes}
 use Rattle.std.specs.Option.{option_map}
+use Rattle.pb_election.specs.Instance.{Instance}
+use Rattle.pb_election.specs.Outcome.{Decided}
 use Rattle.pb_reply.specs.Inside.Loaded.{delivery_of}
+use Rattle.pb_reply.specs.Inside.Taking.{AuditsOutcome, IfTaken, decided_as}
+use Rattle.pb_reply.specs.declared.unanswered.Unanswered.{Unanswered}
 use Rattle.pb_audit.specs.Reports.{EntryFiles, Found}
 use Rattle.pb_audit.specs.declared.found.Found as code
 use Rattle.pb_audit.specs.declared.folder.Entry.{Entry}
@@ -22,3 +26,8 @@ found_as entry found = record {
   prices = found.prices;
   violation = found.violation;
 }
+
+-- an election with its own outcome, memory aside, or why it has none
+pub record IsDecided (e : Instance) (decided : Result Decided Unanswered) : Type 0 where
+  pub outcome : IfTaken (decided_as decided) (AuditsOutcome e None)
+  pub election : IfOk decided (λ d. d.election ≡ e)

@@ -1,5 +1,5 @@
 //! An election whose projects have names that mean something in JSON, HTML and at a terminal.
-use pb_election::Election;
+use pb_election::{DecidedElection, Election, Outcome};
 use pb_samples::files::town;
 use serde_json::Value;
 use std::alloc::Global;
@@ -28,6 +28,13 @@ pub fn hostile_election(alloc: Global) -> Result<Election, Fail> {
     let ballots = format!(in alloc; "{},{} {} -", FUNDED.0, UNFUNDED.0, UNFUNDED.0)?;
     let text = town(alloc, "10", &projects, &ballots)?;
     Ok(Election::read(alloc, text.as_bytes())?)
+}
+
+/// The same with the outcome that it states.
+pub fn hostile_decided(alloc: Global) -> Result<DecidedElection, Fail> {
+    let election = hostile_election(alloc)?;
+    let outcome = Outcome::selected(alloc, &election)?;
+    Ok(DecidedElection::new(election, outcome))
 }
 
 /// A value is to have this text, in which `@election` and `@outcome` stand for what objects say of these, and `@funded`

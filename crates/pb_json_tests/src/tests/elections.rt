@@ -1,7 +1,7 @@
 //! Elections, outcomes, refusals, two answers together, and texts.
-use super::common::{expect_text, hostile_election};
+use super::common::{expect_text, hostile_decided, hostile_election};
 use pb_certificate::{CertFault, CertRefusal};
-use pb_election::{Election, ElectionFault, Outcome, Refusal};
+use pb_election::{Election, ElectionFault, Refusal};
 use pb_input::{InputFault, InputName, InputRefusal};
 use pb_json::{both_json, election_json, json_text, outcome_json, read_json, refusal_json};
 use serde_json::{Value, json};
@@ -48,9 +48,8 @@ fn election_that_was_read_is_told(rt: HostRuntime) -> Result<(), Fail> {
 
 #[test]
 fn outcome_is_told(rt: HostRuntime) -> Result<(), Fail> {
-    let election = hostile_election(rt.alloc())?;
-    let outcome = Outcome::selected(rt.alloc(), &election)?;
-    let object = outcome_json(rt.alloc(), &election, &outcome)?;
+    let decided = hostile_decided(rt.alloc())?;
+    let object = outcome_json(rt.alloc(), &decided)?;
     expect_text(&rt, rt.alloc(), &object, "@outcome")
 }
 

@@ -1,12 +1,11 @@
 //! Groups that fall short.
 ghost use Rattle.std.specs.Prelude.{◌≡◌};
 ghost use Rattle.pb_election.specs.Instance.{projects};
-ghost use Rattle.pb_election.specs.Outcome.{OutcomeFits};
 
-use super::common::{expect_text, hostile_election};
+use super::common::{expect_text, hostile_decided};
 use pb_certificate::Measure;
 use pb_cohesion::GroupFigures;
-use pb_election::{Election, Outcome};
+use pb_election::DecidedElection;
 use pb_json::groups_json;
 use serde_json::Value;
 use std::alloc::Global;
@@ -47,35 +46,22 @@ const NO_GROUP_OBJECT: &str =
     \"kind\":\"groups\",\"measure\":\"cost\",\"outcome\":@outcome,\"version\":1}";
 
 /// The object on an election of two projects, with the figures of none, of the closest, or of one that falls short.
-fn object_of(
-    alloc: Global,
-    election: &Election,
-    outcome: &Outcome,
-    which: u32,
-) -> Result<Value, Fail>
-    requires election { projects election.now ≡ 2 }
-    requires outcome { OutcomeFits outcome.now election.now }
+fn object_of(alloc: Global, decided: &DecidedElection, which: u32) -> Result<Value, Fail>
+    requires { projects (decided.now).election ≡ 2 }
 {
     Ok(match which {
-        0 => groups_json(alloc, Measure::ByCost, election, outcome, &[])?,
-        1 => groups_json(alloc, Measure::ByCost, election, outcome, &[CLOSEST])?,
-        _ => groups_json(
-            alloc,
-            Measure::ByCount,
-            election,
-            outcome,
-            &[CLOSEST, SHORT],
-        )?,
+        0 => groups_json(alloc, Measure::ByCost, decided, &[])?,
+        1 => groups_json(alloc, Measure::ByCost, decided, &[CLOSEST])?,
+        _ => groups_json(alloc, Measure::ByCount, decided, &[CLOSEST, SHORT])?,
     })
 }
 
 #[test]
 fn groups_are_told(rt: HostRuntime) -> Result<(), Fail> {
-    let election = hostile_election(rt.alloc())?;
-    let outcome = Outcome::selected(rt.alloc(), &election)?;
-    assert_eq!(rt; election.projects(), 2);
+    let decided = hostile_decided(rt.alloc())?;
+    assert_eq!(rt; decided.election().projects(), 2);
     for (which, want) in [(0, NO_GROUP_OBJECT), (1, CLOSEST_OBJECT), (2, SHORT_OBJECT)] {
-        let object = object_of(rt.alloc(), &election, &outcome, which)?;
+        let object = object_of(rt.alloc(), &decided, which)?;
         expect_text(&rt, rt.alloc(), &object, want)?;
     }
     Ok(())

@@ -1,11 +1,10 @@
 //! Prices.
 ghost use Rattle.std.specs.Prelude.{◌≡◌};
 ghost use Rattle.pb_election.specs.Instance.{Instance, projects};
-ghost use Rattle.pb_election.specs.Outcome.{OutcomeFits};
 ghost use Rattle.pb_json.specs.Prices.{FindingsNameProjects};
 
-use super::common::{expect_text, hostile_election};
-use pb_election::{Election, Outcome};
+use super::common::{expect_text, hostile_decided};
+use pb_election::DecidedElection;
 use pb_json::prices_json;
 use pb_price::{
     Comparison, Failure, Finding, Findings, Mode, NearestGroup, PaymentFinding, Verdict,
@@ -105,20 +104,18 @@ const OBJECT: &str = "{\"answer\":\"no\",\"budgets\":\"24000000\",\"conditions\"
     \"version\":1,\"voter_budget\":\"8000000\"}";
 
 /// The object on an election of two projects, after a no.
-fn failed_object(alloc: Global, election: &Election, outcome: &Outcome) -> Result<Value, Fail>
-    requires election { projects election.now ≡ 2 }
-    requires outcome { OutcomeFits outcome.now election.now }
+fn failed_object(alloc: Global, decided: &DecidedElection) -> Result<Value, Fail>
+    requires { projects (decided.now).election ≡ 2 }
 {
     let verdict = Verdict::Failed(Failure::C1(3, 1));
-    Ok(prices_json(alloc, Mode::PLAIN, election, outcome, verdict, &FOUND, None)?)
+    Ok(prices_json(alloc, Mode::PLAIN, decided, verdict, &FOUND, None)?)
 }
 
 #[test]
 fn prices_are_told(rt: HostRuntime) -> Result<(), Fail> {
-    let election = hostile_election(rt.alloc())?;
-    let outcome = Outcome::selected(rt.alloc(), &election)?;
-    assert_eq!(rt; election.projects(), 2);
-    let object = failed_object(rt.alloc(), &election, &outcome)?;
+    let decided = hostile_decided(rt.alloc())?;
+    assert_eq!(rt; decided.election().projects(), 2);
+    let object = failed_object(rt.alloc(), &decided)?;
     expect_text(&rt, rt.alloc(), &object, OBJECT)
 }
 
@@ -144,8 +141,7 @@ fn supported(budgets: u128) -> Findings
 /// What a yes says of groups goes by the budgets, and where these are the limit by whether Exhaustive was asked for.
 #[test]
 fn yes_says_what_of_groups(rt: HostRuntime) -> Result<(), Fail> {
-    let election = hostile_election(rt.alloc())?;
-    let outcome = Outcome::selected(rt.alloc(), &election)?;
+    let decided = hostile_decided(rt.alloc())?;
     let unasked = Mode {
         exhaustive: false,
         ..Mode::STABLE
@@ -160,8 +156,7 @@ fn yes_says_what_of_groups(rt: HostRuntime) -> Result<(), Fail> {
         let object = prices_json(
             rt.alloc(),
             mode,
-            &election,
-            &outcome,
+            &decided,
             Verdict::Supported,
             &findings,
             None,
@@ -175,15 +170,14 @@ fn yes_says_what_of_groups(rt: HostRuntime) -> Result<(), Fail> {
 /// The limit is 10, and there are three voters.
 #[test]
 fn group_that_comes_nearest_is_told(rt: HostRuntime) -> Result<(), Fail> {
-    let election = hostile_election(rt.alloc())?;
-    let outcome = Outcome::selected(rt.alloc(), &election)?;
-    assert_eq!(rt; election.projects(), 2);
+    let decided = hostile_decided(rt.alloc())?;
+    assert_eq!(rt; decided.election().projects(), 2);
     let nearest = NearestGroup {
         project: 2,
         supporters: 2,
         funded_for: 6_000_000,
     };
-    let object = nearest_object(rt.alloc(), &election, &outcome, nearest)?;
+    let object = nearest_object(rt.alloc(), &decided, nearest)?;
     let text = object.to_string(rt.alloc())?;
     let want =
         "\"nearest\":{\"cost\":\"9000000\",\"funded_for\":\"6000000\",\"number\":2,\"project\":\"{}\u{202e}$(c)`\u{1f5f3}\",\
@@ -195,23 +189,13 @@ fn group_that_comes_nearest_is_told(rt: HostRuntime) -> Result<(), Fail> {
 /// The object on a yes for an election of two projects, with this group.
 fn nearest_object(
     alloc: Global,
-    election: &Election,
-    outcome: &Outcome,
+    decided: &DecidedElection,
     nearest: NearestGroup,
 ) -> Result<Value, Fail>
-    requires election { projects election.now ≡ 2 }
+    requires election { projects (decided.now).election ≡ 2 }
     requires nearest { nearest.project ≡ 2 }
-    requires outcome { OutcomeFits outcome.now election.now }
 {
     let findings = supported(24_000_000);
     let yes = Verdict::Supported;
-    Ok(prices_json(
-        alloc,
-        Mode::PLAIN,
-        election,
-        outcome,
-        yes,
-        &findings,
-        Some(nearest),
-    )?)
+    Ok(prices_json(alloc, Mode::PLAIN, decided, yes, &findings, Some(nearest))?)
 }

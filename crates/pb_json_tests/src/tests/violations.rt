@@ -1,14 +1,13 @@
 //! Violation certificates.
 ghost use Rattle.std.specs.Prelude.{◌≡◌};
 ghost use Rattle.pb_election.specs.Instance.{projects};
-ghost use Rattle.pb_election.specs.Outcome.{OutcomeFits};
 
-use super::common::{expect_text, hostile_election};
+use super::common::{expect_text, hostile_decided};
 use pb_certificate::Measure;
 use pb_cohesion::{
     MissingApprovals, SatisfiedMembers, ViolationFailure, ViolationFindings, ViolationVerdict,
 };
-use pb_election::{Election, Outcome};
+use pb_election::DecidedElection;
 use pb_json::violation_json;
 use serde_json::Value;
 use std::alloc::Global;
@@ -63,31 +62,24 @@ const FOUND_OBJECT: &str =
     {\"culprits\":0,\"demanded\":\"1\",\"first\":null,\"gets\":\"0\",\"holds\":true,\"name\":\"V4\"}],\"version\":1}";
 
 /// The object on an election of two projects.
-fn object_of(
-    alloc: Global,
-    election: &Election,
-    outcome: &Outcome,
-    is_found: bool,
-) -> Result<Value, Fail>
-    requires election { projects election.now ≡ 2 }
-    requires outcome { OutcomeFits outcome.now election.now }
+fn object_of(alloc: Global, decided: &DecidedElection, is_found: bool) -> Result<Value, Fail>
+    requires { projects (decided.now).election ≡ 2 }
 {
     Ok(if is_found {
         let verdict = ViolationVerdict::Violation;
-        violation_json(alloc, Measure::ByCount, election, outcome, verdict, &FOUND)?
+        violation_json(alloc, Measure::ByCount, decided, verdict, &FOUND)?
     } else {
         let verdict = ViolationVerdict::Failed(ViolationFailure::V2(1, 2));
-        violation_json(alloc, Measure::ByCost, election, outcome, verdict, &NONE)?
+        violation_json(alloc, Measure::ByCost, decided, verdict, &NONE)?
     })
 }
 
 #[test]
 fn violations_are_told(rt: HostRuntime) -> Result<(), Fail> {
-    let election = hostile_election(rt.alloc())?;
-    let outcome = Outcome::selected(rt.alloc(), &election)?;
-    assert_eq!(rt; election.projects(), 2);
+    let decided = hostile_decided(rt.alloc())?;
+    assert_eq!(rt; decided.election().projects(), 2);
     for (is_found, want) in [(true, FOUND_OBJECT), (false, NONE_OBJECT)] {
-        let object = object_of(rt.alloc(), &election, &outcome, is_found)?;
+        let object = object_of(rt.alloc(), &decided, is_found)?;
         expect_text(&rt, rt.alloc(), &object, want)?;
     }
     Ok(())

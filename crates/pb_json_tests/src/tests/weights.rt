@@ -1,12 +1,11 @@
 //! Refutations.
 ghost use Rattle.std.specs.Prelude.{◌≡◌};
 ghost use Rattle.pb_election.specs.Instance.{projects};
-ghost use Rattle.pb_election.specs.Outcome.{OutcomeFits};
 ghost use Rattle.pb_json.specs.Refutations.{VerdictNamesProject};
 
-use super::common::{expect_text, hostile_election};
+use super::common::{expect_text, hostile_decided};
 use pb_cohesion::{MisplacedRows, RefutationFailure, RefutationFindings, RefutationVerdict};
-use pb_election::{Election, Outcome};
+use pb_election::DecidedElection;
 use pb_json::refutation_json;
 use serde_json::Value;
 use std::alloc::Global;
@@ -51,39 +50,32 @@ const COUNTED_OBJECT: &str = "{\"answer\":\"no\",\"election\":@election,\
     {\"at_least\":\"30000000\",\"at_most\":\"30000000\",\"cover\":0,\"holds\":false,\"name\":\"U3\"}],\"version\":1}";
 
 /// The object on an election of two projects.
-fn object_of(
-    alloc: Global,
-    election: &Election,
-    outcome: &Outcome,
-    misplaced: bool,
-) -> Result<Value, Fail>
-    requires election { projects election.now ≡ 2 }
-    requires outcome { OutcomeFits outcome.now election.now }
+fn object_of(alloc: Global, decided: &DecidedElection, misplaced: bool) -> Result<Value, Fail>
+    requires { projects (decided.now).election ≡ 2 }
 {
     Ok(if misplaced {
         let verdict = RefutationVerdict::Failed(RefutationFailure::U1(1));
-        refutation_json(alloc, election, outcome, verdict, &MISPLACED)?
+        refutation_json(alloc, decided, verdict, &MISPLACED)?
     } else {
         let verdict = RefutationVerdict::Failed(RefutationFailure::U2);
-        refutation_json(alloc, election, outcome, verdict, &COUNTED)?
+        refutation_json(alloc, decided, verdict, &COUNTED)?
     })
 }
 
 #[test]
 fn refutations_are_told(rt: HostRuntime) -> Result<(), Fail> {
-    let election = hostile_election(rt.alloc())?;
-    let outcome = Outcome::selected(rt.alloc(), &election)?;
-    assert_eq!(rt; election.projects(), 2);
+    let decided = hostile_decided(rt.alloc())?;
+    assert_eq!(rt; decided.election().projects(), 2);
     for (misplaced, want) in [(true, MISPLACED_OBJECT), (false, COUNTED_OBJECT)] {
-        let object = object_of(rt.alloc(), &election, &outcome, misplaced)?;
+        let object = object_of(rt.alloc(), &decided, misplaced)?;
         expect_text(&rt, rt.alloc(), &object, want)?;
     }
     Ok(())
 }
 
 /// The verdicts that prove something, of any election.
-fn proving(_election: &Election, which: u32) -> RefutationVerdict
-    ensures { VerdictNamesProject _election.now result }
+fn proving(_decided: &DecidedElection, which: u32) -> RefutationVerdict
+    ensures { VerdictNamesProject (_decided.now).election result }
 {
     match which {
         0 => RefutationVerdict::Unpriceable,
@@ -95,10 +87,9 @@ fn proving(_election: &Election, which: u32) -> RefutationVerdict
 
 /// The object after one of these, and its text but for these words, by the one after a no.
 fn expect_proved(rt: &impl Abort, alloc: Global, which: u32, words: &str) -> Result<(), Fail> {
-    let election = hostile_election(alloc)?;
-    let outcome = Outcome::selected(alloc, &election)?;
-    let verdict = proving(&election, which);
-    let object = refutation_json(alloc, &election, &outcome, verdict, &COUNTED)?;
+    let decided = hostile_decided(alloc)?;
+    let verdict = proving(&decided, which);
+    let object = refutation_json(alloc, &decided, verdict, &COUNTED)?;
     let failed = "\"failed\":{\"name\":\"U2\",\"project\":null,\"voter\":null}";
     let proves = format!(in alloc; "\"proves\":\"{words}\"")?;
     let want = COUNTED_OBJECT.replace(alloc, "\"answer\":\"no\"", "\"answer\":\"yes\"")?;

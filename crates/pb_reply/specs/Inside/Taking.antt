@@ -5,7 +5,7 @@ use Rattle.std.specs.Option.{option_map}
 use Rattle.pb_election.specs.Instance.{Instance}
 use Rattle.pb_records.specs.Loading.{Delivery}
 use Rattle.pb_records.specs.Loading as delivery
-use Rattle.pb_election.specs.Outcome.{Funding}
+use Rattle.pb_election.specs.Outcome.{Decided, Funding}
 use Rattle.pb_certificate.specs.Violations.{Claim}
 use Rattle.pb_certificate.specs.declared.violations.measure.Measure.{Measure}
 use Rattle.pb_reply.specs.Replies.{Reply, refused}
@@ -34,10 +34,14 @@ IsUnloaded input delivery.TooLong why = why ≡ unanswered.Refused (refusal_of i
 abbrev pub unanswered_at : InputName → InputFault → Unanswered
 unanswered_at input why = if wants_memory why then unanswered.Memory else unanswered.Refused (refusal_of input why)
 
--- an outcome that was taken as its marks, and a claim as its measure, its group and its demand
+-- an outcome that was taken as its marks, also with its election, and a claim as its measure, its group and its demand
 abbrev pub as_marks : Result Funding Unanswered → Result (List Bool) Unanswered
 as_marks (Ok w) = Ok w.marks
 as_marks (Err why) = Err why
+
+abbrev pub decided_as : Result Decided Unanswered → Result (List Bool) Unanswered
+decided_as (Ok d) = Ok d.outcome.marks
+decided_as (Err why) = Err why
 
 abbrev pub claimed : Result Claim Unanswered → Result (Measure × List ℕ × List ℕ) Unanswered
 claimed (Ok v) = Ok (v.measure, v.group, v.demand)

@@ -1,6 +1,8 @@
-use Rattle.std.proofs.Common.{◌≡◌, refl, rules}
+use Rattle.std.proofs.Common.{◌≡◌, refl, rules, subst}
 use Rattle.std.specs.Prelude.{Err}
+use Rattle.pb_election.specs.Instance.{Instance}
 use Rattle.pb_reply.specs.Turns.{file_turn, turn}
+use Rattle.pb_audit.specs.Figured.{IsFiguredReply}
 use Rattle.pb_audit.proofs.Audits.{memory_told}
 use Rattle.pb_audit.proofs.FallingShort.{figured_answered, figured_ended_at_election, figured_ended_at_outcome}
 use Rattle.pb_audit.proofs.figured.figured_in_turn.Goals as goal
@@ -15,14 +17,14 @@ returns-in_err-election g c =
     c.in_err-election.field-0.0 c.in_err-election.ensures refl
     )
 
-pub returns-in_err-outcome : goal.returns-in_err-outcome
-returns-in_err-outcome g c =
-    let is : c.from_residual-in_err-outcome.result ≡ Err c.in_err-outcome.field-0.0 = search rules in
+pub returns-in_err-decided : goal.returns-in_err-decided
+returns-in_err-decided g c =
+    let is : c.from_residual-in_err-decided.result ≡ Err c.in_err-decided.field-0.0 = search rules in
     rw is (
     figured_ended_at_outcome (g.A.FigureAudit.rules c.args.audit.now)
     (turn g.E.Given.delivers c.args.election.now c.take_election.new.input)
-    (file_turn g.O.Given.delivers c.args.outcome.now c.take_outcome.new.input)
-    c.in_ok-election.election c.in_err-outcome.field-0.0 c.in_ok-election.ensures c.in_err-outcome.ensures.taken
+    (file_turn g.O.Given.delivers c.args.outcome.now c.take_decided.new.input)
+    c.in_ok-election.election c.in_err-decided.field-0.0 c.in_ok-election.ensures c.in_err-decided.ensures.taken
     )
 
 pub returns : goal.returns
@@ -31,7 +33,9 @@ returns g c =
       told.0,
       (
         figured_answered (g.A.FigureAudit.rules c.args.audit.now) _ _ _ _ told.0 c.in_ok-election.ensures
-            c.in_ok-outcome.ensures.taken told.1.0,
+            c.in_ok-decided.ensures.taken
+            (subst (λ (e : Instance). IsFiguredReply (g.A.FigureAudit.rules c.args.audit.now) e
+            c.in_ok-decided.decided.outcome.marks told.0) c.in_ok-decided.ensures.election told.1.0),
         told.1.1,
       ),
     )

@@ -1,36 +1,43 @@
-use Rattle.std.proofs.Common.{◌∙◌, List, ap, refl, subst, sym}
-use Rattle.std.specs.Prelude.{All}
+use Rattle.std.proofs.Common.{refl, subst}
 use Rattle.std.proofs.lemmas.Result.{IfOk-weaker}
 use Rattle.pb_certificate.specs.declared.violations.measure.Measure.{Measure}
 use Rattle.pb_cohesion.specs.Closest.{AreAllFigures}
-use Rattle.pb_cohesion.specs.declared.GroupFigures.{GroupFigures}
-use Rattle.pb_json.specs.Groups.{CanBeTold}
+use Rattle.pb_election.specs.Instance.{Instance}
+use Rattle.pb_election.specs.Outcome.{Funding}
 use Rattle.pb_audit.proofs.FallingShort.{figures_told}
 use Rattle.pb_audit.proofs.figured.told_of.Goals as goal
 
-pub reply_on-requires-clause-figures : goal.reply_on-requires-clause-figures
-reply_on-requires-clause-figures g c =
-    subst (λ (xs : List GroupFigures). All (CanBeTold c.args.election.now) xs) (sym c.deref.ensures.value)
-    (figures_told c.measure.result c.args.election.now c.args.outcome.now.marks _ c.in_ok-figures.ensures.figures
-    c.in_ok-figures.ensures.small)
+pub reply_on-requires : goal.reply_on-requires
+reply_on-requires g c =
+    let m = c.measure.result in
+    let o = c.args.decided.now.outcome in
+    let xs = c.in_ok-figures.figures.items in
+    figures_told m c.args.decided.now.election o.marks xs
+    (subst (λ (e : Instance). AreAllFigures m e o.marks xs) c.election-election.ensures
+    (subst (λ (w : Funding). AreAllFigures m c.election-election.result.now w.marks xs) c.outcome-outcome.ensures.value
+    c.in_ok-figures.ensures.figures))
+    c.in_ok-figures.ensures.small
 
 pub returns : goal.returns
 returns g c =
-    let e = c.args.election.now in
-    let w = c.args.outcome.now.marks in
+    let e = c.args.decided.now.election in
+    let o = c.args.decided.now.outcome in
     let xs = c.in_ok-figures.figures.items in
     let rules = g.A.FigureAudit.rules c.args.audit.now in
-    let figures = subst (λ (m : Measure). AreAllFigures m e w xs) c.measure.ensures c.in_ok-figures.ensures.figures in
+    let figures = subst (λ (m : Measure). AreAllFigures m e o.marks xs) c.measure.ensures
+    (subst (λ (i : Instance). AreAllFigures c.measure.result i o.marks xs) c.election-election.ensures
+    (subst (λ (w : Funding). AreAllFigures c.measure.result c.election-election.result.now w.marks xs)
+    c.outcome-outcome.ensures.value c.in_ok-figures.ensures.figures)) in
     IfOk-weaker c.reply_on.result _ _
     (λ own is. (
-      rules.reply e w xs,
+      rules.reply e o.marks xs,
       (
         record {
           xs = xs;
-          figured = record { figures = figures; promised = c.reply_on.ensures.promised e w xs figures };
+          figured = record { figures = figures; promised = c.reply_on.ensures.promised e o.marks xs figures };
           out = refl;
         },
-        is ∙ ap (λ (ys : List GroupFigures). g.A.Told.FromReply.told (rules.reply e w ys)) c.deref.ensures.value,
+        is,
       ),
     ))
     c.reply_on.ensures.reply

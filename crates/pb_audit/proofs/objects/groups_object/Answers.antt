@@ -1,5 +1,6 @@
-use Rattle.std.proofs.Common.{◌∙◌, ap, subst, sym}
+use Rattle.std.proofs.Common.{◌∙◌, List, ap, subst, sym}
 use Rattle.serde_json.specs.Data.{Data}
+use Rattle.pb_cohesion.specs.declared.GroupFigures.{GroupFigures}
 use Rattle.pb_json.specs.Groups.{groups_json}
 use Rattle.serde_json.specs.Written.{compact_text}
 use Rattle.pb_json.specs.Texts.{IsPlain, most_nested}
@@ -9,10 +10,18 @@ use Rattle.pb_audit.proofs.objects.groups_object.Goals as goal
 
 pub new-requires : goal.new-requires
 new-requires c =
+    let e = c.args.decided.now.election in
+    let w = c.args.decided.now.outcome.marks in
+    let m = c.args.groups.now.measure in
     subst (λ (d : Data). IsPlain most_nested d) (sym c.in_ok-object.ensures)
-    (plain_enough (groups_json c.args.measure c.args.election.now c.args.outcome.now.marks c.args.figures.now)
-    (groups_are_plain c.args.measure c.args.election.now c.args.outcome.now.marks c.args.figures.now))
+    (plain_enough (groups_json m e w c.deref.result.now) (groups_are_plain m e w c.deref.result.now))
 
 pub returns : goal.returns
 unfolding groups_text
-returns c = c.new.ensures ∙ ap compact_text c.in_ok-object.ensures
+returns c =
+    let e = c.args.decided.now.election in
+    let w = c.args.decided.now.outcome.marks in
+    let m = c.args.groups.now.measure in
+    c.new.ensures
+    ∙ ap compact_text c.in_ok-object.ensures
+    ∙ ap (λ (xs : List GroupFigures). compact_text (groups_json m e w xs)) c.deref.ensures.value

@@ -10,18 +10,22 @@ use Rattle.pb_audit.proofs.objects.price_object.Goals as goal
 
 pub new-requires : goal.new-requires
 new-requires c =
+    let e = c.args.decided.now.election in
+    let w = c.args.decided.now.outcome.marks in
+    let p = c.args.prices.now in
     subst (λ (d : Data). IsPlain most_nested d) (sym c.in_ok-object.ensures)
     (plain_enough
-    (prices_json c.args.mode c.args.election.now c.args.outcome.now.marks c.verdict-told.result c.args.findings.now
-    c.args.nearest)
-    (prices_are_plain c.args.mode c.args.election.now c.args.outcome.now.marks c.verdict-told.result c.args.findings.now
-    c.args.nearest))
+    (prices_json p.mode e w c.verdict.result p.findings p.nearest)
+    (prices_are_plain p.mode e w c.verdict.result p.findings p.nearest))
 
 pub returns : goal.returns
 unfolding price_text
-returns c = c.new.ensures
+returns c =
+    let e = c.args.decided.now.election in
+    let w = c.args.decided.now.outcome.marks in
+    let p = c.args.prices.now in
+    c.new.ensures
     ∙ ap compact_text c.in_ok-object.ensures
     ∙ ap
-    (λ (v : Verdict). compact_text (prices_json c.args.mode c.args.election.now c.args.outcome.now.marks v c.args.findings.now
-    c.args.nearest))
-    c.verdict-told.ensures
+    (λ (v : Verdict). compact_text (prices_json p.mode e w v p.findings p.nearest))
+    c.verdict.ensures

@@ -3,16 +3,17 @@ use Rattle.serde_json.specs.Data.{Data}
 use Rattle.pb_json.specs.Violations.{violation_json}
 use Rattle.serde_json.specs.Written.{compact_text}
 use Rattle.pb_json.specs.Texts.{IsPlain, most_nested}
-use Rattle.pb_json.proofs.Plain.{plain_enough, violation_is_plain}
+use Rattle.pb_json.proofs.Plain.{violation_is_plain, plain_enough}
 use Rattle.pb_audit.specs.Objects.{violation_text}
 use Rattle.pb_audit.proofs.objects.violation_object.Goals as goal
 
 pub new-requires : goal.new-requires
 new-requires c =
+    let e = c.args.decided.now.election in
+    let w = c.args.decided.now.outcome.marks in
     subst (λ (d : Data). IsPlain most_nested d) (sym c.in_ok-object.ensures)
-    (plain_enough
-    (violation_json c.args.measure c.args.election.now c.args.outcome.now.marks c.args.verdict c.args.findings.now)
-    (violation_is_plain c.args.measure c.args.election.now c.args.outcome.now.marks c.args.verdict c.args.findings.now))
+    (plain_enough (violation_json c.args.group.now.measure e w c.args.group.now.verdict c.args.group.now.findings)
+    (violation_is_plain c.args.group.now.measure e w c.args.group.now.verdict c.args.group.now.findings))
 
 pub returns : goal.returns
 unfolding violation_text

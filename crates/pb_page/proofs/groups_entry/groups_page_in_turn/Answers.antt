@@ -1,10 +1,12 @@
 use Rattle.std.proofs.Common.{◌≡◌, [], ◌∷◌, ◌++◌, List, Bool, ℕ, Option, ap, refl, rules, subst}
 use Rattle.std.specs.Prelude.{Err, Ok, option_map, option_to_list}
 use Rattle.pb_records.specs.Loading.{Delivery}
+use Rattle.pb_election.specs.Instance.{Instance}
 use Rattle.pb_reply.specs.Turns.{file_turn, turn}
 use Rattle.pb_reply.specs.Inside.Taking.{AuditsOutcome, IfTaken}
 use Rattle.pb_reply.specs.declared.unanswered.Unanswered.TheVariants.{Memory}
 use Rattle.pb_figures.specs.declared.amounts.Style.{Style}
+use Rattle.pb_page.specs.Groups.{TellsGroups}
 use Rattle.pb_page.specs.Sums.{sums_of}
 use Rattle.pb_page.specs.Taken.{RendersTold, sum_of}
 use Rattle.pb_page.proofs.Groups.{groups-answered, groups-ended-at-election, groups-ended-at-outcome}
@@ -21,35 +23,41 @@ returns-in_err-taken g c =
     c.in_err-taken.ensures.unanswered refl
     )
 
-pub returns-in_err-funded : goal.returns-in_err-funded
-returns-in_err-funded g c =
-    let is : c.from_residual-in_err-funded.result ≡ Err c.in_err-funded.field-0.0 =
-    err-is _ _ c.in_err-funded.field-0.0 (λ why is_it. is_it) c.from_residual-in_err-funded.ensures in
+pub returns-in_err-decided : goal.returns-in_err-decided
+returns-in_err-decided g c =
+    let is : c.from_residual-in_err-decided.result ≡ Err c.in_err-decided.field-0.0 =
+    err-is _ _ c.in_err-decided.field-0.0 (λ why is_it. is_it) c.from_residual-in_err-decided.ensures in
     let given = c.in_ok-taken.ensures.given in
     let taken =
-    subst (λ (o : Option Delivery). IfTaken {A = List Bool} (Err c.in_err-funded.field-0.0) (AuditsOutcome c.in_ok-taken.taken.election o))
-    c.file_given.ensures c.in_err-funded.ensures.taken in
+    subst (λ (o : Option Delivery). IfTaken {A = List Bool} (Err c.in_err-decided.field-0.0) (AuditsOutcome c.in_ok-taken.taken.election o))
+    c.file_given.ensures c.in_err-decided.ensures.taken in
     rw is (
     groups-ended-at-outcome c.args.measure c.args.language
     (turn g.E.Given.delivers c.args.election.now c.take_election.new.input)
     (file_turn g.O.Given.delivers c.args.outcome.now c.take_file.new.input) given.delivery
-    (option_map g.O.Taken.AsFile.delivery c.in_ok-given.given) c.in_ok-taken.taken.election c.in_err-funded.field-0.0 given.delivered
+    (option_map g.O.Taken.AsFile.delivery c.in_ok-given.given) c.in_ok-taken.taken.election c.in_err-decided.field-0.0 given.delivered
     given.states c.in_ok-given.ensures taken
     )
 
 pub returns-in_err-told : goal.returns-in_err-told
 returns-in_err-told g c = rw (err-is _ _ Memory (λ why is_it. is_it) c.from_residual-in_err-told.ensures) tt
 
+pub returns-in_err-page : goal.returns-in_err-page
+returns-in_err-page g c = rw (err-is _ _ Memory (λ why is_it. is_it) c.from_residual-in_err-page.ensures) tt
+
 pub returns : goal.returns
 returns g c =
     let given = c.in_ok-taken.ensures.given in
     let told = c.in_ok-told.told in
     let taken =
-    subst (λ (o : Option Delivery). AuditsOutcome c.in_ok-taken.taken.election o (Ok c.in_ok-funded.funded.marks))
-    c.file_given.ensures c.in_ok-funded.ensures.taken in
+    subst (λ (o : Option Delivery). AuditsOutcome c.in_ok-taken.taken.election o (Ok c.in_ok-decided.decided.outcome.marks))
+    c.file_given.ensures c.in_ok-decided.ensures.taken in
+    let tells =
+    subst (λ (e : Instance). TellsGroups c.args.measure e c.in_ok-decided.decided.outcome.marks told)
+    c.in_ok-decided.ensures.election c.in_ok-told.ensures.told in
     let at_outcome =
     subst
-    (λ (o : Option Delivery). RendersTold told (sum_of c.in_ok-taken.taken.file ∷ sums_of (option_to_list o ++ [])) c.in_ok-page.page)
+    (λ (o : Option Delivery). RendersTold told (sum_of c.in_ok-taken.taken.shown.file ∷ sums_of (option_to_list o ++ [])) c.in_ok-page.page)
     c.file_given-2.ensures c.in_ok-page.ensures in
     let renders =
     subst
@@ -58,6 +66,6 @@ returns g c =
     groups-answered c.args.measure c.args.language
     (turn g.E.Given.delivers c.args.election.now c.take_election.new.input)
     (file_turn g.O.Given.delivers c.args.outcome.now c.take_file.new.input) given.delivery
-    (option_map g.O.Taken.AsFile.delivery c.in_ok-given.given) c.in_ok-taken.taken.election c.in_ok-funded.funded.marks told
-    c.in_ok-page.page given.delivered given.states c.in_ok-given.ensures taken c.in_ok-told.ensures.told
+    (option_map g.O.Taken.AsFile.delivery c.in_ok-given.given) c.in_ok-taken.taken.election c.in_ok-decided.decided.outcome.marks told
+    c.in_ok-page.page given.delivered given.states c.in_ok-given.ensures taken tells
     (ap (λ (s : Style). s.language) c.in_ok-told.ensures.style) renders

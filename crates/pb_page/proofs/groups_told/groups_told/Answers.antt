@@ -12,12 +12,15 @@ shown_of-requires c =
 
 pub told_by-requires : goal.told_by-requires
 told_by-requires c =
-    groups-name-project c.args.measure c.args.election.now c.args.outcome.now.marks c.in_ok-groups.groups.items
-    c.in_ok-groups.ensures.figures
+    groups-name-project c.args.measure c.election-election.result.now c.outcome-outcome.result.now.marks
+    c.in_ok-groups.groups.items c.in_ok-groups.ensures.figures
 
 pub returns-clause-told : goal.returns-clause-told
 returns-clause-told c =
-    let limit : c.millionths.result ≡ c.args.election.now.limit = search rules in
-    tells-groups c.args.measure c.args.election.now c.args.outcome.now.marks c.told_by.result _ c.told_by.ensures.line
+    let e = c.election-election.result.now in
+    let limit : c.millionths.result ≡ e.limit = search rules in
+    rw (sym c.election-election.ensures) (rw (sym c.outcome-outcome.ensures.value) (
+    tells-groups c.args.measure e c.outcome-outcome.result.now.marks c.told_by.result _ c.told_by.ensures.line
     c.told_by.ensures.found c.in_ok-groups.ensures.figures refl (c.shown_of.ensures ∙ ap shown c.deref.ensures.value)
     c.in_ok-costs_of.ensures limit c.cost_of_funded.ensures.value c.voters.ensures.value
+    ))

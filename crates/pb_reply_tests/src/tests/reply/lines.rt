@@ -4,7 +4,7 @@ use pb_certificate::Measure;
 use pb_cohesion::{
     GroupsVerdict, RefutationFailure, RefutationVerdict, ViolationFailure, ViolationVerdict,
 };
-use pb_election::{Election, Outcome};
+use pb_election::{DecidedElection, Election, Outcome};
 use pb_price::{Failure, Verdict};
 use pb_reply::{
     Status, Unmet, groups_line, groups_status, price_line, price_status, push_limit_note,
@@ -172,8 +172,9 @@ fn limit_notes(alloc: Global, limit: &str) -> Result<Vec<String>, Fail> {
     let text = town(alloc, limit, "d;2;1 c;5;1 e;9;0", "d,c,e")?;
     let election = Election::read(alloc, text.as_bytes())?;
     let outcome = Outcome::selected(alloc, &election)?;
+    let decided = DecidedElection::new(election, outcome);
     let mut lines = Vec::new(alloc);
-    push_limit_note(alloc, &mut lines, &election, &outcome)?;
+    push_limit_note(alloc, &mut lines, &decided)?;
     Ok(lines)
 }
 

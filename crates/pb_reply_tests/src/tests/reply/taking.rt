@@ -1,9 +1,9 @@
 //! What is taken of files and of readers.
-use pb_election::{Election, Input, Outcome};
+use pb_election::{DecidedElection, Election, Input};
 use pb_input::{InputName, InputRefusal};
 use pb_reply::{
-    AsFile, File, Given, Loaded, Unanswered, bytes_of, election_of, outcome_of, take_election,
-    take_outcome, violation_of,
+    AsFile, File, Given, Loaded, Unanswered, bytes_of, decided_of, election_of, take_decided,
+    take_election, violation_of,
 };
 use pb_samples::fakes::InterruptedReader;
 use pb_samples::files::{
@@ -113,13 +113,13 @@ fn violation_is_taken_or_refused_by_the_name_it_has(rt: HostRuntime) -> Result<(
 /// An outcome is to fund these of the three sample projects; or it is refused for this.
 fn expect_outcome(
     rt: &impl Abort,
-    election: &Election,
-    taken: &Result<Outcome, Unanswered>,
+    taken: &Result<DecidedElection, Unanswered>,
     want: Result<[bool; 3], Why>,
 ) -> Result<(), Fail> {
     let refusal = why(taken)?;
     assert_eq!(rt; refusal, want.err());
-    if let (Ok(outcome), Ok(marks)) = (taken, want) {
+    if let (Ok(decided), Ok(marks)) = (taken, want) {
+        let (election, outcome) = (decided.election(), decided.outcome());
         assert!(rt; outcome.fits(election) && election.projects() == 3);
         let found = [outcome.has(1), outcome.has(2), outcome.has(3)];
         assert_eq!(rt; found, marks);
@@ -136,8 +136,8 @@ fn expect_outcome_of(
     want: Result<[bool; 3], Why>,
 ) -> Result<(), Fail> {
     let election = Election::read(alloc, text.as_bytes())?;
-    let taken = outcome_of(alloc, file, &election);
-    expect_outcome(rt, &election, &taken, want)
+    let taken = decided_of(alloc, election, file);
+    expect_outcome(rt, &taken, want)
 }
 
 #[test]
@@ -232,18 +232,17 @@ fn election_of_a_reader_is_taken_or_refused(rt: HostRuntime) -> Result<(), Fail>
 /// What is taken of an outcome file whose reader is interrupted at the read of this number.
 fn taken(
     alloc: Global,
-    election: &Election,
+    election: Election,
     text: Option<&str>,
     interrupted_at: usize,
-) -> Result<Outcome, Unanswered> {
+) -> Result<DecidedElection, Unanswered> {
     let mut file = text.map(|text| Input::new(InterruptedReader::new(text, 20, interrupted_at)));
-    take_outcome(alloc, &mut file, election)
+    take_decided(alloc, election, &mut file)
 }
 
 #[test]
 fn outcome_of_a_reader_is_taken_or_refused(rt: HostRuntime) -> Result<(), Fail> {
     let alloc = rt.alloc();
-    let election = Election::read(alloc, ELECTION.as_bytes())?;
     for (text, interrupted_at, want) in [
         (None, 0, Ok([true, true, false])),
         (Some(POOL_OUTCOME), 0, Ok([false, false, true])),
@@ -251,8 +250,9 @@ fn outcome_of_a_reader_is_taken_or_refused(rt: HostRuntime) -> Result<(), Fail> 
         (Some(POOL_OUTCOME), 1, Err(("outcome", 18, "Read", 0))),
         (Some(POOL_OUTCOME), 2, Err(("outcome", 18, "Read", 0))),
     ] {
-        let taken = taken(alloc, &election, text, interrupted_at);
-        expect_outcome(&rt, &election, &taken, want)?;
+        let election = Election::read(alloc, ELECTION.as_bytes())?;
+        let taken = taken(alloc, election, text, interrupted_at);
+        expect_outcome(&rt, &taken, want)?;
     }
     Ok(())
 }
