@@ -179,13 +179,17 @@ def test_crates_of_the_design():
 
 
 def test_each_library_is_named():
-    """No crate lists a library in crates.txt that none of its files names."""
-    idle = []
-    for crate, below in re.findall(r"^(\w+)(?: staticlib)?:(.*)$", (TOP / "crates.txt").read_text(encoding="utf-8"), re.MULTILINE):
+    """A crate lists in crates.txt just the libraries of the repository that its files name, and of the kit's none that they don't."""
+    lines = re.findall(r"^(\w+)(?: staticlib)?:(.*)$", (TOP / "crates.txt").read_text(encoding="utf-8"), re.MULTILINE)
+    ours, idle, missing = {crate for crate, _ in lines}, [], []
+    for crate, below in lines:
         files = [path for part in ("src", "specs", "proofs") for path in (TOP / "crates" / crate / part).rglob("*") if path.is_file()]
-        words = {word for path in files for word in re.findall(r"\w+", path.read_text(encoding="utf-8"))}
+        texts = [path.read_text(encoding="utf-8") for path in files]
+        words = {word for text in texts for word in re.findall(r"\w+", text)}
         idle += [(crate, each) for each in below.split() if each not in words]
-    assert idle == []
+        named = {word for text in texts for pair in re.findall(r"Rattle\.(\w+)\.|\b(\w+)::", text) for word in pair}
+        missing += [(crate, each) for each in sorted(named & ours - {crate, *below.split()})]
+    assert (idle, missing) == ([], [])
 
 
 def calls_of_the_walk():
