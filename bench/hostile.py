@@ -3,7 +3,7 @@
 
     python3 bench/hostile.py [--program PROGRAM] [--library FOLDER] [--page PAGE] [--package TGZ] [--small] [--only SHAPE]
 
-Each that is given is measured: PROGRAM, as release/pbaudit; the Python package by libpbaudit.so.1 in FOLDER; the worker of
+Each that is given is measured: PROGRAM, as release/pbaudit; the Python package by libpbaudit.so.2 in FOLDER; the worker of
 PAGE, the pbaudit.html that ./pbaudit-web made, in Chromium, from its start on; and TGZ, the package for JavaScript, by
 Node. The memory of the page is that of its process; less than that of Python itself, about 12 MB, isn't told apart.
 
@@ -26,6 +26,7 @@ import tempfile
 from bench import a_program, arguments, in_child, run
 
 MOST_BYTES = 2**28
+LIBRARY = "libpbaudit.so.2"
 SECONDS_TO_REPEAT = 5
 HEAD = b"META\nkey;value\nbudget;1\nvote_type;approval\nPROJECTS\nproject_id;cost;selected\n"
 VOTES = b"VOTES\nvoter_id;vote\n"
@@ -299,7 +300,7 @@ def by_python(library, room):
     """The package of this repository with that library, as a wheel would install it."""
     package = pathlib.Path(__file__).resolve().parent.parent / "python/pbaudit"
     shutil.copytree(package, f"{room}/python/pbaudit", ignore=shutil.ignore_patterns("__pycache__"))
-    shutil.copy(pathlib.Path(library) / "libpbaudit.so.1", f"{room}/python/pbaudit")
+    shutil.copy(pathlib.Path(library) / LIBRARY, f"{room}/python/pbaudit")
     return lambda *words: run(sys.executable, ["-c", CALLS, f"{room}/python", *words], f"{room}/out")
 
 
@@ -369,7 +370,7 @@ def words_given():
     words.add_argument("--small", action="store_true")
     words.add_argument("--only", action="append", choices=[*SHAPES], metavar="SHAPE", help=", ".join(SHAPES))
     given = words.parse_args()
-    library = given.library and f"{given.library}/libpbaudit.so.1"
+    library = given.library and f"{given.library}/{LIBRARY}"
     for path in filter(None, (library, given.page, given.package)):
         if not os.path.isfile(path):
             words.error(f"there is no file {path}")

@@ -1,7 +1,8 @@
 /* pbaudit: an auditor for participatory budgeting outcomes, over files in memory.
  *
  * Each function reads whole files, given as a pointer and a length in bytes, and answers what the command of the same
- * name prints. The result is that command's exit status (but for pbaudit_groups, which answers a number alone):
+ * name prints. The result is that command's exit status (but for pbaudit_groups and pbaudit_kind, which answer a number
+ * alone):
  *   0  yes: the answer is yes, or what was asked for is given
  *   1  no: a condition or a test failed, which the text names
  *   2  refused: a file has an error; the text says which file, and the first thing wrong
@@ -24,6 +25,12 @@
  *   process with threads.
  * - The stack has room: 128 KiB is enough where it was measured.
  * The functions keep nothing between calls, so threads may call them side by side.
+ *
+ * Which to call: pbaudit_report tells all of an answer, for programs; pbaudit_answer its text, and how it ends in numbers.
+ * pbaudit_json, pbaudit_note, pbaudit_groups and pbaudit_hint are older, and a report has what they tell: its second line is
+ * what pbaudit_json answers; after a yes to prices `notes` has the note of pbaudit_note, and `groups` in the object of the
+ * prices the case of pbaudit_groups, as "little", "weak" or "strict"; and after a refusal `hint` has the line and the
+ * sentences of pbaudit_hint.
  */
 #ifndef PBAUDIT_H
 #define PBAUDIT_H
@@ -32,10 +39,12 @@
 #include <stddef.h>
 #include <stdint.h>
 
-/* The version of this interface: the number behind libpbaudit.so, and in the version of its symbols, PBAUDIT_1. It grows where a
- * program that was made with an older header may get another answer or none: where a function goes or takes other
- * arguments, a type is laid out anew, or a number stands for something else. What is added to it leaves it as it is. */
-#define PBAUDIT_INTERFACE 1
+/* The version of this interface: the number behind libpbaudit.so, and in the version of its symbols, PBAUDIT_2. It grows where a
+ * program that was made with an older header may get another answer or none: where a function goes, takes other arguments or
+ * answers in another form, a type is laid out anew, or a number stands for something else. What is added to it leaves it as it
+ * is. So a program runs only with libraries of the number with which it was made. 1 is that of 0.3.0; with 2 pbaudit_json and
+ * pbaudit_report answer margins, also of groups, with an object, where they gave none. */
+#define PBAUDIT_INTERFACE 2
 
 #ifdef __cplusplus
 extern "C" {
@@ -113,9 +122,9 @@ uint8_t pbaudit_answer(uint8_t question,
                        pbaudit_facts *facts, uint8_t *out, size_t room, size_t *needed);
 
 /* The answer to the same question as one JSON object, for programs: the line that the command prints with --json, which
- * docs/JSON.md describes. Its `kind` is "election", "prices", "violation", "refutation", "both" or "groups", that of
- * PBAUDIT_EXPLAIN by its certificate, and of a refusal "refusal". Margins, also of groups, and PBAUDIT_TIDY are no objects:
- * of these the text is that of pbaudit_answer, also where a file is refused. The rest is as there, without facts. */
+ * docs/JSON.md describes. Its `kind` is "election", "prices", "violation", "refutation", "both", "margins", "groups" or
+ * "group_margins", that of PBAUDIT_EXPLAIN by its certificate, and of a refusal "refusal". PBAUDIT_TIDY is no object: its
+ * text is that of pbaudit_answer, also where a file is refused. The rest is as there, without facts. */
 uint8_t pbaudit_json(uint8_t question,
                      const uint8_t *election, size_t election_length,
                      const uint8_t *outcome, size_t outcome_length, bool has_outcome,
@@ -131,7 +140,7 @@ uint8_t pbaudit_json(uint8_t question,
  *    `notes` are those that the program prints on standard error, or `read` among its lines. Where a file is refused,
  *    `refusal` is the object of that, as of pbaudit_json, and `hint` what pbaudit_hint tells: {"line":5,"sentences":[..]},
  *    with the line, or null, and a text for each sentence, or null where nothing is told;
- * 2. the line of pbaudit_json, but not of margins, of groups or of prices, and of PBAUDIT_TIDY, which are no objects;
+ * 2. the line of pbaudit_json, but not of PBAUDIT_TIDY, which is no object;
  * 3. the text of pbaudit_answer.
  * The rest is as for pbaudit_json. */
 uint8_t pbaudit_report(uint8_t question,
@@ -182,6 +191,15 @@ enum {
 };
 uint8_t pbaudit_groups(const uint8_t *election, size_t election_length,
                        const uint8_t *certificate, size_t certificate_length, bool exhaustive);
+
+/* What a file is, by its first record that isn't blank: *kind is one of these numbers, or 0 where that record begins no
+ * such file, isn't UTF-8 or is missing. What follows it isn't looked at: the front of a file is enough, which may be of
+ * any length, and the file may still be refused. What is said above of *needed holds of *kind. 0, or 4, and then *kind
+ * is 0. */
+enum {
+    PBAUDIT_KIND_ELECTION = 1, PBAUDIT_KIND_OUTCOME, PBAUDIT_KIND_PRICES, PBAUDIT_KIND_VIOLATION, PBAUDIT_KIND_REFUTATION
+};
+uint8_t pbaudit_kind(const uint8_t *file, size_t file_length, uint8_t *kind);
 
 /* Why a file is refused, for a person: as an example, for the refusal `refused certificate 24 UnknownVoter record 5`
  *   there is no voter '7010'; the election has 3 voters

@@ -11,6 +11,8 @@ INPUTS = ("election", "outcome", "certificate", "prices", "violation")
 CULPRITS = {**dict(enumerate(("Feasible", "Exhaustive", "Cover", "C1", "C2", "C3", "C4", "C5", "S5"), 1)),
             **dict(enumerate(("V1", "V2", "V3", "V4"), 11)), **dict(enumerate(("U1", "U2", "U3"), 21)), 31: "EJR+"}  # fmt: skip
 ON_GROUPS = (None, "little", "weak", "strict")
+# What a file is by its first record, of which 0 tells that it is none of these.
+FILE_KINDS = (None, "election", "outcome", "prices", "violation", "refutation")
 # What kind of file a hint is on, by the input, or of a certificate by the command.
 KINDS = {"election": 0, "outcome": 1, "prices": 2, "violation": 3}
 CERTIFICATES = {"prices": 2, "violation": 3, "refutation": 5, "margins": 2, "tidy": 2, "explain": 4, "page": 4}
@@ -78,6 +80,7 @@ class Library:
     _PAGE = [*_FILE, *_FILE, *_FILE, *_OUTCOME, *_FILE, *_FILE, *_MODE, *_FILE, _FACTS]
     _GROUPS_PAGE = [*_FILE, *_FILE, *_FILE, *_OUTCOME, ctypes.c_bool, *_FILE, _FACTS]
     _GROUPS = [*_FILE, *_FILE, ctypes.c_bool]
+    _KIND = [*_FILE, ctypes.POINTER(ctypes.c_uint8)]
     _HINT = [ctypes.c_uint8, ctypes.c_uint32, ctypes.c_uint64, *_FILE, *_OUTCOME, ctypes.POINTER(ctypes.c_uint64)]
 
     def __init__(self, path):
@@ -86,6 +89,7 @@ class Library:
         self.page = self._function(library, "answer_page", self._PAGE + self._OUT)
         self.groups_page = self._function(library, "groups_page", self._GROUPS_PAGE + self._OUT)
         self._groups = self._function(library, "groups", self._GROUPS)
+        self._kind = self._function(library, "kind", self._KIND)
         self._hint = self._function(library, "hint", self._HINT + self._OUT)
 
     @staticmethod
@@ -108,6 +112,12 @@ class Library:
     def says_of_groups(self, question):
         words = [word for file in (question.election, question.certificate or b"") for word in (file, len(file))]
         return ON_GROUPS[self._groups(*words, question.mode.exhaustive)]
+
+    def kind(self, file):
+        """What a file is by its first record."""
+        kind = ctypes.c_uint8(99)
+        assert self._kind(file, len(file), ctypes.byref(kind)) == 0
+        return FILE_KINDS[kind.value]
 
     def hint(self, question, facts):
         """The line and the text of a hint."""

@@ -1,6 +1,7 @@
 """Where the tests and the repository are, what a test needs that may be missing, and what several do with files and commands."""
 import os
 import pathlib
+import re
 import shutil
 import subprocess
 
@@ -8,6 +9,9 @@ import pytest
 
 HERE = pathlib.Path(__file__).resolve().parent
 TOP = HERE.parent
+# The number of the interface, by the header, and the C library, in whose name it stands.
+INTERFACE = int(re.search(r"^#define PBAUDIT_INTERFACE (\d+)$", (TOP / "include/pbaudit.h").read_text("utf-8"), re.MULTILINE)[1])
+LIBRARY_NAME = f"libpbaudit.so.{INTERFACE}"
 
 
 def needs(*commands):

@@ -20,7 +20,7 @@ import pytest
 
 import saying
 from cases import Case, write_files
-from common import HERE, TOP, needs, ran
+from common import HERE, LIBRARY_NAME, TOP, needs, ran
 from helps import Helps
 
 # For what a test may be skipped in the gate as well: want of a command, where the machine lacks a package of packages.txt; a release
@@ -145,9 +145,9 @@ def library(option, tmp_path_factory):
     if (folder / "libpbaudit.a").exists():
         return folder
     unpacked = tmp_path_factory.mktemp("library")
-    for name in ("libpbaudit.so.1", "pbaudit.h", "pbaudit.pc"):
+    for name in (LIBRARY_NAME, "pbaudit.h", "pbaudit.pc"):
         shutil.copy(folder / name, unpacked)
-    (unpacked / "libpbaudit.so").symlink_to("libpbaudit.so.1")
+    (unpacked / "libpbaudit.so").symlink_to(LIBRARY_NAME)
     (unpacked / "libpbaudit.a").write_bytes(lzma.decompress((folder / "libpbaudit.a.xz").read_bytes()))
     return unpacked
 
@@ -228,14 +228,14 @@ def commands(program):
 def auditor(library):
     """The library, called as the Python package calls it."""
     from pbaudit import _auditor
-    return _auditor._Library(str(library / "libpbaudit.so.1"))
+    return _auditor._Library(str(library / LIBRARY_NAME))
 
 
 @pytest.fixture(scope="session")
 def c_library(library):
     """The library by its other calls."""
     import c_library
-    return c_library.Library(library / "libpbaudit.so.1")
+    return c_library.Library(library / LIBRARY_NAME)
 
 
 @pytest.fixture(scope="session")

@@ -5,6 +5,7 @@
    library once groups_by_cost SWITCHES ELECTION [OUTCOME], and groups_by_count, explain_groups_by_cost and so on
    library once note SWITCHES ELECTION CERTIFICATE
    library once groups SWITCHES ELECTION CERTIFICATE
+   library once kind - FILE            the text is its number
    library once hint INPUT:NUMBER:RECORD FILE [ELECTION]
    library once report-COMMAND ..  the same of pbaudit_report
                      prints the text, and ends with the status; each buffer is as large as it has to be, and no larger.
@@ -75,6 +76,17 @@ static void call_hint(void) {
     status = pbaudit_hint((uint8_t)input, number, record, IN(0), IN(1), given == 2, &line, OUT);
 }
 
+/* The number of the kind as a digit. */
+static void call_kind(void) {
+    uint8_t kind = 99;
+    status = pbaudit_kind(IN(0), &kind);
+    needed = status ? 0 : 1;
+    if (kind > PBAUDIT_KIND_REFUTATION || (status && kind))
+        exit(9);
+    if (needed && needed <= room)
+        out[0] = (uint8_t)('0' + kind);
+}
+
 static uint8_t refuted(int has_outcome) {
     int is_stable = strchr(switches, 's') != 0;
     return (is_stable ? pbaudit_stable_refutation : pbaudit_refutation)(IN(0), IN(2), has_outcome, IN(1), OUT);
@@ -87,6 +99,8 @@ static void call(void) {
     int outcome = question == PBAUDIT_BOTH ? 3 : question >= PBAUDIT_GROUPS_BY_COST ? 1 : 2, has_outcome = given == outcome + 1;
     if (!strcmp(command, "hint"))
         call_hint();
+    else if (!strcmp(command, "kind"))
+        call_kind();
     else if (!strcmp(command, "note"))
         status = pbaudit_note(IN(0), IN(1), OUT);
     else if (!strcmp(command, "groups"))
@@ -138,7 +152,7 @@ static void load(int at, const char *path) {
 static int has_told(pbaudit_facts wanted) { return !memcmp(&facts, &wanted, sizeof facts); }
 
 static int tells_facts(void) {
-    return !as_report && strcmp(command, "note") && strcmp(command, "hint") && strcmp(command, "groups");
+    return !as_report && strcmp(command, "note") && strcmp(command, "hint") && strcmp(command, "groups") && strcmp(command, "kind");
 }
 
 static void fail_each(void) {

@@ -4,8 +4,9 @@
 
    node tests/module.js PAGE
 
+   A call of `kind` has the bytes of a file, in Base64, and its answer what the file is.
    A call has `command`, `files` (paths by what each is), `names`, `mode`, `measure` and `language`. An answer has what it says as
-   facts, the notes beside it, and of a refusal the hint. `starve` has the call made again and again with too little memory,
+   facts and as lines, the notes beside it, and of a refusal the hint. `starve` has the call made again and again with too little memory,
    where the module's memory never grows. */
 const { execFileSync } = require("child_process"), fs = require("fs"), path = require("path");
 const readline = require("readline"), vm = require("vm");
@@ -18,10 +19,11 @@ function exportsOf(name) {
   return exported.exports;
 }
 
-const [{ Auditor }, { ABOUT_PAGE, isPage, pageCall, reportCall }, { saidBy }] = ["auditor", "commands", "says"].map(exportsOf);
+const [{ Auditor, FACTS_LENGTH }, { ABOUT_PAGE, isPage, pageCall, reportCall }, { lineOf, saidBy }, { NO_MEMORY }] =
+  ["auditor", "commands", "says", "statuses"].map(exportsOf);
 const page = fs.readFileSync(process.argv[2], "utf8");
 const [, written] = /<script type="text\/plain" id="module">(.*?)<\/script>/s.exec(page);
-const OUT_OF_MEMORY = 4, UNTOUCHED = 0xaa, ROOM = 1 << 22;
+const UNTOUCHED = 0xaa, ROOM = 1 << 22;
 // By how many bytes the memory that is left is raised.
 const STEP = 144;
 
@@ -34,23 +36,28 @@ function questionOf(auditor, { files, names = {}, mode, measure = "cost", langua
   return asked;
 }
 
-/** What an answer says: a list, since that to `both` says two things, and a table says nothing. */
+/** What an answer says: a list, since that to `both` says two things, and a table or a certificate says nothing. */
 function saysOf({ object }) {
-  if (!object) return [];
+  if (!object || ["margins", "group_margins"].includes(object.kind)) return [];
   return object.kind === "both" ? [object.prices, object.violation].map(saidBy) : [saidBy(object)];
 }
+
+const kindOf = ({ kind: file }) => {
+  const auditor = new Auditor(module_);
+  return { kind: auditor.kindOf(auditor.put(Buffer.from(file, "base64"))) };
+};
 
 function answer(call) {
   const auditor = new Auditor(module_), asked = questionOf(auditor, call), { command, guess } = call;
   const reply = auditor.report(isPage(command) ? ABOUT_PAGE[command] : command, asked, guess);
   const { status, bytes } = isPage(command) ? auditor.page(command, asked) : { status: reply.status, bytes: reply.text };
-  const { hint, notes } = reply.beside;
-  return { status, text: Buffer.from(bytes).toString("base64"), says: saysOf(reply), notes, ...hint };
+  const { hint, notes } = reply.beside, says = saysOf(reply);
+  return { status, text: Buffer.from(bytes).toString("base64"), says, lines: says.map(lineOf), notes, ...hint };
 }
 
 /** The call that a command makes, of a page without what it says. */
 const rawCall = (auditor, command, asked) =>
-  isPage(command) ? pageCall(command, asked, auditor.room(40)) : reportCall(command, asked);
+  isPage(command) ? pageCall(command, asked, auditor.room(FACTS_LENGTH)) : reportCall(command, asked);
 
 /** How a call ends with so many bytes of memory left: out of memory with nothing written, as usual, or wrongly. */
 function endOf(call, left, usual) {
@@ -60,7 +67,7 @@ function endOf(call, left, usual) {
   auditor.room(auditor.calls.memory.buffer.byteLength - Number(auditor.room(0).at) - left);
   const status = auditor.calls[name](...words, out.at, out.length, needed.at);
   const length = auditor.number(needed), written = Buffer.from(auditor.bytes(out));
-  if (status === OUT_OF_MEMORY) return length === 0 && written.every(byte => byte === UNTOUCHED) ? "failed" : "wrong";
+  if (status === NO_MEMORY) return length === 0 && written.every(byte => byte === UNTOUCHED) ? "failed" : "wrong";
   return status === usual.status && length === usual.length && written.equals(usual.text) ? "answered" : "wrong";
 }
 
@@ -77,7 +84,7 @@ readline.createInterface({ input: process.stdin }).on("line", line => {
   const call = JSON.parse(line);
   let told;
   try {
-    told = call.starve ? starve(call) : answer(call);
+    told = call.starve ? starve(call) : "kind" in call ? kindOf(call) : answer(call);
   } catch (error) {
     told = { error: `${error.stack}` };
   }

@@ -185,3 +185,12 @@ def sheet_cases():
         else:
             assert not line or mark == "#", line
     return cases
+
+
+def changes(name):
+    """The rows of a table of changes, with names: a file behind `==`, what stands in it behind `-`, and behind `+` what is put in its place."""
+    for part in ("\n" + (HERE / "tables" / name).read_text("utf-8")).split("\n== ")[1:]:
+        file, _, rows = part.partition("\n")
+        for change, lines in re.findall(r"^(?![-+] )(.*)\n((?:[-+] .*\n?)+)", rows, re.MULTILINE):
+            old, new = ("\n".join(re.findall(rf"^\{sign} (.*)$", lines, re.MULTILINE)) for sign in "-+")
+            yield pytest.param(file, old, new, id=slug(f"{pathlib.PurePath(file).name} {change}"))

@@ -18,7 +18,7 @@ import pytest
 import calls
 import cases
 import wheel_writer
-from common import HERE, TOP, needs
+from common import HERE, LIBRARY_NAME, TOP, needs
 from test_library import each_call, told_by
 
 BY_CHANCE = 200
@@ -40,7 +40,7 @@ def arm_caller(arm_library, tmp_path_factory):
 
 
 def test_what_it_asks_of_glibc(arm_library):
-    data = (arm_library / "libpbaudit.so.1").read_bytes()
+    data = (arm_library / LIBRARY_NAME).read_bytes()
     assert {*re.findall(rb"\0GLIBC_([\d.]+)", data)} == {b"2.17"}
 
 
@@ -72,7 +72,7 @@ def arm_python(option, arm_library, tmp_path_factory):
     if not root:
         pytest.skip("python3:arm64 is not installed: --arm-root says where it is")
     folder = tmp_path_factory.mktemp("arm")
-    name = wheel_writer.write_wheel(folder, (arm_library / "libpbaudit.so.1").read_bytes(), machine="aarch64")
+    name = wheel_writer.write_wheel(folder, (arm_library / LIBRARY_NAME).read_bytes(), machine="aarch64")
     with zipfile.ZipFile(folder / name) as wheel:
         wheel.extractall(folder / "site")
     script, python = folder / "python3", next((TOP / root / "usr/bin").glob("python3.*"))

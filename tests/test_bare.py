@@ -12,7 +12,7 @@ from pathlib import Path
 
 import pytest
 
-from common import TOP, needs, ran
+from common import LIBRARY_NAME, TOP, needs, ran
 from test_versions import sets_in, sums_in
 
 pytestmark = pytest.mark.xdist_group("bare")
@@ -159,7 +159,7 @@ def test_build_without_the_kit(machine):
 
 
 def test_libraries(machine):
-    done = machine.run("ldd release/pbaudit release/libpbaudit.so.1")
+    done = machine.run(f"ldd release/pbaudit release/{LIBRARY_NAME}")
     found = set(re.findall(r"^\t(\S+)", done.stdout, re.MULTILINE))
     assert found <= {"linux-vdso.so.1", "libc.so.6", "/lib64/ld-linux-x86-64.so.2"}
     assert done.returncode == 0 and "not found" not in done.stdout
@@ -242,8 +242,8 @@ def test_tar(machine, packages):
     done = machine.run("cd release && for file in pbaudit.html pbaudit-*.tgz MADE-OF pbaudit.spdx.json; do "
                        "cmp /root/pbaudit-*-linux-x86_64/$file $file || exit; done")
     assert (done.returncode, done.stdout) == (0, ""), done.stderr
-    done = machine.run("cd /root/pbaudit-*-linux-x86_64/lib && readlink libpbaudit.so && cmp libpbaudit.so \"$OLDPWD/release/libpbaudit.so.1\"")
-    assert (done.returncode, done.stdout) == (0, "libpbaudit.so.1\n"), done.stderr
+    done = machine.run(f'cd /root/pbaudit-*-linux-x86_64/lib && readlink libpbaudit.so && cmp libpbaudit.so "$OLDPWD/release/{LIBRARY_NAME}"')
+    assert (done.returncode, done.stdout) == (0, f"{LIBRARY_NAME}\n"), done.stderr
 
 
 def test_deb(machine, packages):

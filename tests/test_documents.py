@@ -1,10 +1,10 @@
 """The pages lead somewhere: each link of a page to a file or a heading, and each path in backticks; they keep to their lengths, which
-docs/TRUST.md tells; docs/DESIGN.md has each crate, and walks through each command by calls that there are; the README has the kit;
-what docs/ANSWERS.md, docs/COUNCILS.md and docs/STORY.md quote and docs/CONDITIONS.md names is said by the page about a certificate,
-and the buttons that pages name are on the page in a browser; the sums of docs/CAMPAIGNS.md are right, and so is its refutation; each
-word of docs/GLOSSARY.md has its definition; the build that docs/LIBRARY.md shows fails where it has to; each file that docs/files.py
-prints begins with a comment on what it is for; each command that the pages show writes what stands under it; and each changed line
-that docs/FORMATS.md shows has its refusal."""
+docs/TRUST.md tells; docs/DESIGN.md has each crate, walks through each command by calls that there are, and lists what a change touches;
+the README has the kit; what docs/ANSWERS.md, docs/COUNCILS.md and docs/STORY.md quote and docs/CONDITIONS.md names is said by the page
+about a certificate, and the buttons that pages name are on the page in a browser; the sums of docs/CAMPAIGNS.md are right, and so is its
+refutation; each word of docs/GLOSSARY.md has its definition; the build that docs/LIBRARY.md shows fails where it has to; each file that
+docs/files.py prints begins with a comment on what it is for; each command that the pages show writes what stands under it; and each
+changed line that docs/FORMATS.md shows has its refusal."""
 import csv
 import math
 import re
@@ -190,6 +190,50 @@ def test_each_library_is_named():
         named = {word for text in texts for pair in re.findall(r"Rattle\.(\w+)\.|\b(\w+)::", text) for word in pair}
         missing += [(crate, each) for each in sorted(named & ours - {crate, *below.split()})]
     assert (idle, missing) == ([], [])
+
+
+# What docs/DESIGN.md says how to add, and some of its kind, all of which are named wherever a new one has to be.
+NAMED_BY = {
+    "a condition on prices": [rf"(?<![A-Z\d]){name}(?![a-z\d])|\b{name.lower()}\b" for name in ("C4", "C5", "S5")],
+    "a measure, of at most 10^18 for each project": ["ByCount", "ByCost"], "a command": ["(?i)tidy", "(?i)margins"],
+}  # fmt: skip
+KINDS = {"src": "rt", "specs": "antt", "proofs": "antt"}
+
+
+def places_that_name(words):
+    """The sources, modules and proofs that have each word, but for comments, and for the crates of tests."""
+    for kind, ending in KINDS.items():
+        for path in (TOP / "crates").glob(f"*/{kind}/**/*.{ending}"):
+            crate = path.relative_to(TOP / "crates").parts[0]
+            code = re.sub("--.*" if ending == "antt" else "//.*", "", path.read_text(encoding="utf-8"))
+            if not crate.endswith("_tests") and crate != "pb_samples" and all(re.search(word, code) for word in words):
+                yield path.relative_to(TOP / "crates").as_posix()
+
+
+def places_of_the_row(text):
+    """The places that a row lists: of each crate sources, and modules and proofs, of which the first has the name of the folder."""
+    crate, folder = "", ""
+    for name in re.findall(r"`([\w/]+)`", text):
+        if name.startswith("pb_"):
+            crate, folder = name, ""
+        elif name.startswith(("specs/", "proofs/")):
+            folder = name.partition("/")[0]
+            yield f"{crate}/{name}.antt"
+        elif name[0].isupper():
+            yield f"{crate}/{folder}/{name}.antt"
+        else:
+            yield f"{crate}/src/{name}.rt"
+
+
+@pytest.mark.parametrize("what", NAMED_BY)
+def test_places_of_a_change(what):
+    """Up to 'Besides', the row lists just the places that name those of the kind, and it says how many they are."""
+    [row] = [row for row in rows_of("docs/DESIGN.md") if row.startswith(f"| {what}: ")]
+    head, text = row.strip("| ").split(" | ")
+    listed = [*places_of_the_row(text.partition(" Besides, ")[0])]
+    assert sorted(listed) == sorted(places_that_name(NAMED_BY[what]))
+    told = [int(number) for number in re.findall(r"(\d+) (?:sources|modules|proofs)", head)]
+    assert told == [sum(f"/{kind}/" in place for place in listed) for kind in KINDS]
 
 
 def calls_of_the_walk():

@@ -13,7 +13,7 @@ import tempfile
 import pytest
 
 import tables
-from common import TOP, needs, script
+from common import LIBRARY_NAME, TOP, needs, script
 
 ANSWERS = tables.Table("answers.txt").files
 SAMPLE, PRICES, FAIR = ANSWERS["sample.pb"], ANSWERS["sample.prices.csv"], ANSWERS["fair.violation.csv"]
@@ -111,7 +111,7 @@ def test_pages_of_a_thousand_elections(library, room):
     (room / "elections").mkdir()
     fill(room / "elections", files)
     shutil.copytree(TOP / "python/pbaudit", room / "site/pbaudit", ignore=shutil.ignore_patterns("__pycache__"))
-    shutil.copy(library / "libpbaudit.so.1", room / "site/pbaudit")
+    shutil.copy(library / LIBRARY_NAME, room / "site/pbaudit")
     words = [sys.executable, "-B", "-m", "pbaudit", "page", "--folder", "elections", "-o", "pages"]
     ran = subprocess.run(words, cwd=room, env=os.environ | {"PYTHONPATH": str(room / "site")}, capture_output=True, check=False)
     assert (ran.stdout.decode().splitlines(), ran.returncode) == (report, 2)

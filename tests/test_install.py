@@ -10,14 +10,14 @@ import shutil
 
 import pytest
 
-from common import TOP, needs, ran, turned
+from common import LIBRARY_NAME, TOP, needs, ran, turned
 from helps import Helps
 from tables import EXAMPLES
 
 pytestmark = pytest.mark.usefixtures("built_here")
 FILES = {
     "bin/pbaudit": 0o755,
-    "lib/libpbaudit.so.1": 0o755,
+    f"lib/{LIBRARY_NAME}": 0o755,
     "lib/libpbaudit.so": 0o755,
     "lib/libpbaudit.a": 0o644,
     "include/pbaudit.h": 0o644,
@@ -228,7 +228,7 @@ def test_man_page_is_clean(prefix, words):
 def expect_files(root, written):
     """Everything is there and nothing else, is told, and is what is built."""
     found = {str(file.relative_to(root)): file.stat().st_mode & 0o777 for file in root.rglob("*") if file.is_file()}
-    assert found == FILES and os.readlink(root / "lib/libpbaudit.so") == "libpbaudit.so.1"
+    assert found == FILES and os.readlink(root / "lib/libpbaudit.so") == LIBRARY_NAME
     assert {file.stat().st_mode & 0o777 for file in [root, *root.rglob("*")] if file.is_dir()} == {0o755}
     assert sorted(written.splitlines()) == sorted(str(root / file) for file in FILES)
     words = ["read", EXAMPLES / "district.pb"]
@@ -255,7 +255,7 @@ def expect_library(root, prefix, room, **environment):
         given = [EXAMPLES / "district.pb", EXAMPLES / certificate]
         mine, other = ran(program, *given), ran(root / "bin/pbaudit", "prices", *given)
         assert (mine.returncode, mine.stdout) == (other.returncode, other.stdout)
-    assert f"libpbaudit.so.1 => {root}/lib/libpbaudit.so.1 " in ran("ldd", program).stdout
+    assert f"{LIBRARY_NAME} => {root}/lib/{LIBRARY_NAME} " in ran("ldd", program).stdout
 
 
 @pytest.mark.parametrize("umask", [0o077, 0o022], ids=oct)
@@ -391,7 +391,7 @@ def make_release(copy):
     release = copy / "release"
     release.mkdir()
     shutil.copy(TOP / "crates/pbaudit/out/pbaudit", release)
-    for name in ("libpbaudit.so.1", "pbaudit.h", "pbaudit.pc"):
+    for name in (LIBRARY_NAME, "pbaudit.h", "pbaudit.pc"):
         shutil.copy(TOP / "lib" / name, release)
     with lzma.open(release / "libpbaudit.a.xz", "wb", preset=0) as packed:
         packed.write((TOP / "lib/libpbaudit.a").read_bytes())
@@ -418,7 +418,7 @@ def test_release(room, copy):
     done = ran(copy / "install", prefix, env=environment)
     assert (done.returncode, done.stderr) == (0, "")
     expect_files(prefix, done.stdout)
-    for name, file in (("libpbaudit.a", "lib/libpbaudit.a"), ("libpbaudit.so.1", "lib/libpbaudit.so.1"), ("pbaudit.h", "include/pbaudit.h")):
+    for name, file in (("libpbaudit.a", "lib/libpbaudit.a"), (LIBRARY_NAME, f"lib/{LIBRARY_NAME}"), ("pbaudit.h", "include/pbaudit.h")):
         assert (prefix / file).read_bytes() == (TOP / "lib" / name).read_bytes()
     for file in sorted(release.iterdir()):
         if file.name not in ("MADE-OF", "SHA256SUMS"):

@@ -8,10 +8,10 @@ import subprocess
 
 import pytest
 
-from common import TOP, ran, script
+from common import INTERFACE, LIBRARY_NAME, TOP, ran, script
 
 PLACES = {
-    "pbaudit": "bin/pbaudit", "libpbaudit.so.1": "lib/libpbaudit.so.1", "pbaudit.h": "include/pbaudit.h", "pbaudit.1": "share/man/man1/pbaudit.1",
+    "pbaudit": "bin/pbaudit", LIBRARY_NAME: f"lib/{LIBRARY_NAME}", "pbaudit.h": "include/pbaudit.h", "pbaudit.1": "share/man/man1/pbaudit.1",
     "pbaudit.bash": "share/bash-completion/completions/pbaudit", "_pbaudit": "share/zsh/site-functions/_pbaudit",
     "pbaudit.fish": "share/fish/vendor_completions.d/pbaudit.fish",
 }  # fmt: skip
@@ -47,13 +47,14 @@ class Copy:
         for name in CHANGING:
             script(room / "stops" / name, STOPS.format(name=name, path=shutil.which(name)))
 
-    def release(self, word):
+    def release(self, word, library=LIBRARY_NAME):
         """Makes a release whose files have this word, and returns what is to be at the places."""
         folder = self.top / "release"
         shutil.rmtree(folder, ignore_errors=True)
         folder.mkdir()
         for name in PLACES:
             (folder / name).write_text(f"{name} {word}\n" * 5000)
+        (folder / LIBRARY_NAME).rename(folder / library)
         script(folder / "pbaudit", f"#!/bin/sh\necho {word}\n")
         (folder / "pbaudit.pc").write_text(f"Name: pbaudit\nDescription: {word}\nVersion: 1.2.3\n")
         (folder / "libpbaudit.a.xz").write_bytes(lzma.compress(word.encode()))
@@ -61,7 +62,7 @@ class Copy:
         (folder / "MADE-OF").write_text("pbaudit\n\n" + "".join(sums))
         lines = [f"{hashlib.sha256(file.read_bytes()).hexdigest()}  {file.name}\n" for file in sorted(folder.iterdir())]
         (folder / "SHA256SUMS").write_text("".join(lines))
-        return {place: (folder / name).read_text() for name, place in PLACES.items()}
+        return {place: (folder / (library if name == LIBRARY_NAME else name)).read_text() for name, place in PLACES.items()}
 
     def call(self, *words, **more):
         environment = os.environ | {"DESTDIR": ""} | more.pop("environment", {})
@@ -108,7 +109,7 @@ def test_stopped_at_any_moment(copy, room):
         assert {*files} == {*PLACES.values()}
         assert [path for path, text in files.items() if text not in (old[path], new[path])] == []
         assert ran(copy.prefix / "bin/pbaudit").stdout in ("old\n", "new\n")
-        assert files["include/pbaudit.h"] == old["include/pbaudit.h"] or files["lib/libpbaudit.so.1"] == new["lib/libpbaudit.so.1"]
+        assert files["include/pbaudit.h"] == old["include/pbaudit.h"] or files[PLACES[LIBRARY_NAME]] == new[PLACES[LIBRARY_NAME]]
         assert copy.call("--uninstall", copy.prefix).returncode == 0
         assert not copy.prefix.exists()
         number += 1
@@ -221,13 +222,53 @@ def test_upgrade_from_a_library_without_a_number(copy):
     copy.release("old")
     assert copy.call().returncode == 0
     link, known = copy.prefix / "lib/libpbaudit.so", copy.prefix / "share/pbaudit/installed"
-    (copy.prefix / "lib/libpbaudit.so.1").rename(link)
-    lines = known.read_text().replace("link to libpbaudit.so.1  lib/libpbaudit.so\n", "").replace("  lib/libpbaudit.so.1\n", "  lib/libpbaudit.so\n")
+    (copy.prefix / "lib" / LIBRARY_NAME).rename(link)
+    lines = known.read_text().replace(f"link to {LIBRARY_NAME}  lib/libpbaudit.so\n", "")
+    lines = lines.replace(f"  lib/{LIBRARY_NAME}\n", "  lib/libpbaudit.so\n")
     known.write_text(lines)
     new = copy.release("new")
     assert copy.call().returncode == 0 and copy.found() == (new, MADE)
-    assert os.readlink(link) == "libpbaudit.so.1"
+    assert os.readlink(link) == LIBRARY_NAME
     assert copy.call("--uninstall", copy.prefix).returncode == 0 and not copy.prefix.exists()
+
+
+def install_other(copy, number):
+    """Installs a release of another version, whose interface has this number, and answers the name of its library."""
+    header, name = copy.top / "include/pbaudit.h", f"libpbaudit.so.{number}"
+    before = header.read_text()
+    header.write_text(before.replace(f"PBAUDIT_INTERFACE {INTERFACE}\n", f"PBAUDIT_INTERFACE {number}\n"))
+    copy.release("old", library=name)
+    assert copy.call().returncode == 0 and os.readlink(copy.prefix / "lib/libpbaudit.so") == name
+    header.write_text(before)
+    return name
+
+
+@pytest.mark.parametrize("number", [INTERFACE - 1, 10 * INTERFACE])
+def test_upgrade_from_a_library_of_another_number(copy, number):
+    """It stays for programs that ask for it, through later calls too, and goes with the others in the end."""
+    name = install_other(copy, number)
+    old = (copy.prefix / "lib" / name).read_text()
+    for word in ("new", "newer"):
+        new = copy.release(word)
+        assert copy.call().returncode == 0 and copy.found() == (new, sorted([*MADE, f"lib/{name}"]))
+        assert os.readlink(copy.prefix / "lib/libpbaudit.so") == LIBRARY_NAME and (copy.prefix / "lib" / name).read_text() == old
+    done = copy.call("--uninstall", copy.prefix)
+    assert (done.returncode, done.stderr) == (0, "") and str(copy.prefix / "lib" / name) in done.stdout.splitlines()
+    assert not copy.prefix.exists()
+
+
+@pytest.mark.parametrize("was_installed", [True, False])
+def test_library_of_another_number_that_is_mine(copy, was_installed):
+    """It is left, whether it is another file since or was never installed."""
+    name = install_other(copy, INTERFACE - 1) if was_installed else f"libpbaudit.so.{INTERFACE - 1}"
+    mine = copy.prefix / "lib" / name
+    mine.parent.mkdir(parents=True, exist_ok=True)
+    mine.write_text("mine")
+    copy.release("new")
+    assert copy.call().returncode == 0
+    done = copy.call("--uninstall", copy.prefix)
+    assert (done.returncode, f"install: {mine} stays" in done.stderr, mine.read_text()) == (0, was_installed, "mine")
+    assert {*snapshot(copy.prefix)} == {mine.parent, mine}
 
 
 @pytest.mark.parametrize("is_mine", [True, False])
@@ -236,10 +277,10 @@ def test_uninstall_of_a_link(copy, is_mine):
     copy.release("new")
     assert copy.call().returncode == 0
     link = copy.prefix / "lib/libpbaudit.so"
-    (copy.prefix / "lib/libpbaudit.so.1").unlink()
+    (copy.prefix / "lib" / LIBRARY_NAME).unlink()
     if not is_mine:
         link.unlink()
-        link.symlink_to("../lib/libpbaudit.so.1")
+        link.symlink_to(f"../lib/{LIBRARY_NAME}")
     done = copy.call("--uninstall", copy.prefix)
     assert (done.returncode, link.is_symlink(), f"install: {link} stays" in done.stderr) == (0, not is_mine, not is_mine)
 

@@ -6,6 +6,7 @@ import re
 
 import pytest
 
+import header
 import pbaudit
 from common import HERE, TOP
 
@@ -18,21 +19,12 @@ def of(language):
     return [line.partition(" ")[2] for line in LINES if line.split(" ")[0] == language]
 
 
-def on_one_line(text):
-    return " ".join(text.split())
-
-
 def in_header(text):
     """What a header declares, in the form of the table."""
-    text = re.sub(r"/\*.*?\*/", "", text, flags=re.DOTALL)
-    found = {f"{name}({on_one_line(takes)})" for name, takes in re.findall(r"^(?:static inline )?uint8_t (pbaudit_\w+)\(([^)]*)\)", text, re.M)}
-    found |= {f"{name} {{{on_one_line(fields)}}}" for fields, name in re.findall(r"typedef struct \{([^}]*)\} (\w+);", text)}
-    for listed in re.findall(r"enum \{([^}]*)\}", text):
-        at = -1
-        for name, given in re.findall(r"(PBAUDIT_\w+)(?: = (\d+))?", listed):
-            at = int(given or at + 1)
-            found.add(f"{name} = {at}")
-    return found
+    exported, inline = header.functions(text)
+    found = {f"{name}({takes})" for name, takes in (exported | inline).items()}
+    found |= {f"{name} {{{fields}}}" for name, fields in header.structs(text).items()}
+    return found | {f"{name} = {number}" for name, number in header.numbers(text).items()}
 
 
 def takes(function, wanted):
@@ -92,5 +84,5 @@ def test_change_of_the_types_is_seen(old):
 
 def test_program(commands):
     has = {f"{name} {option} {value}" for name, options in commands.options.items() for option, value in options.items()}
-    has = {on_one_line(each) for each in has} | {*commands.names}
+    has = {header.on_one_line(each) for each in has} | {*commands.names}
     assert of("program") and {*of("program")} - has == set()

@@ -16,6 +16,7 @@ import saying
 import tables
 from common import HERE, TOP, needs
 from reference import group_figures, objects
+from reference.certificates import quoted
 from reference.election import read_election
 from reference.objects import WITH_JSON
 from test_answers import ON_EXAMPLES
@@ -68,10 +69,15 @@ def a_small_refutation(chance):
     return cases.Case([chance.choice(["refutation", "explain"]), "town.pb", "claim.csv", "--stable"], files)
 
 
+def margins_of_groups(chance):
+    case = cases.a_groups_check(chance)
+    return dataclasses.replace(case, words=["margins", *case.words[1:], "--groups"])
+
+
 # How often each kind is made.
 KINDS = {
     a_read: 8, cases.a_price_check: 24, cases.a_violation_check: 12, cases.a_refutation_check: 20, a_small_refutation: 8,
-    cases.both: 8, cases.explain: 10, cases.a_groups_check: 24,
+    cases.both: 8, cases.explain: 10, cases.a_groups_check: 24, cases.margins: 10, margins_of_groups: 10,
 }  # fmt: skip
 
 
@@ -107,6 +113,8 @@ def lines_in(value):
         return ["refused {input} {number} {name} record {record}".format(**value)]
     if value["kind"] == "election":
         return [*of_election(value["election"])]
+    if value["kind"] in ("margins", "group_margins"):
+        return [*(of_margins if value["kind"] == "margins" else of_group_margins)(value)]
     failed = value["failed"]
     if failed and value["kind"] == "groups":
         return [f"failed EJR+ by {value['measure']} voters {value['group']['voters']} project {failed['project']}"]
@@ -132,6 +140,30 @@ def of_election(election):
         yield f"note: selected is neither 0 nor 1 in {election['other_selected']} projects"
     for column in election["unused_columns"]:
         yield f"note: column {column} of VOTES is not used"
+
+
+def of_margins(value):
+    """The table, whose columns docs/FORMATS.md describes."""
+    yield "pb-margins,1"
+    yield f"grains_per_unit,{value['grains_per_unit']}"
+    yield "project,funded,supporters,cost,paid,left,offer"
+    assert [each["number"] for each in value["projects"]] == list(range(1, value["election"]["projects"] + 1))
+    for each in value["projects"]:
+        figures = [each[key] for key in ("supporters", "cost", "paid", "left", "offer")]
+        yield ",".join(map(str, [quoted(each["project"].encode()).decode(), int(each["funded"]), *figures]))
+
+
+def of_group_margins(value):
+    """That of groups, in which a need is over the number of voters, as a share is."""
+    voters = max(1, value["election"]["voters"])
+    yield "pb-groups,1"
+    yield f"satisfaction,{value['measure']}"
+    yield f"denominator,{voters}"
+    yield "project,voters,most,need,share,missing"
+    for each in value["groups"]:
+        assert each["share"]["denominator"] == each["missing"]["denominator"] == voters
+        sums = [int(each["need"]) * voters, each["share"]["numerator"], each["missing"]["numerator"]]
+        yield ",".join(map(str, [quoted(each["project"].encode()).decode(), each["voters"], each["most"], *sums]))
 
 
 @pytest.fixture(scope="module")
@@ -199,6 +231,8 @@ def kind_of(value):
         return f"refused {value['input']}"
     if value["kind"] == "both":
         return f"both {value['prices']['answer']} {value['violation']['answer']}"
+    if value["kind"] in ("margins", "group_margins"):
+        return f"{value['kind']} {'some' if value.get('projects') or value.get('groups') else 'none'}"
     failed = value.get("failed")
     return f"{value['kind']} {failed['name'] if failed else value.get('proves') or value.get('groups') or value['answer']}"
 
@@ -208,7 +242,8 @@ def test_each_kind_comes(seed, option):
     if option("cases") is not None and option("cases") < BY_CHANCE:
         pytest.skip("fewer cases than usual")
     names = {"prices": "strict weak little Feasible Exhaustive Cover C1 C2 C3 C4 C5 S5", "violation": "yes V1 V2 V3 V4",
-             "refutation": "U1 U2 U3", "groups": "yes EJR+", "election": "yes"}  # fmt: skip
+             "refutation": "U1 U2 U3", "groups": "yes EJR+", "election": "yes", "margins": "some",
+             "group_margins": "some none"}  # fmt: skip
     wanted = {f"{kind} {name}" for kind, all_of in names.items() for name in all_of.split(" ")}
     wanted |= {f"refutation unpriceable{stable}{cover}" for stable in ("", " stable") for cover in ("", " cover")}
     wanted |= {f"both {one} {other}" for one in ("yes", "no") for other in ("yes", "no")} - {"both yes yes"}
@@ -270,7 +305,7 @@ BAD_IDS = [b"a\tb", b"a\x00b", b"a\x1fb", b"a\x7fb", b"a\nb", b"a\rb", b"\x1b[2J
 NOT_UTF8 = [b"\xff", b"a\x80", b"\xc0\xaf", b"\xed\xa0\x80", b"\xf4\x90\x80\x80", b"\xe2\x80", b"\xf0\x9f\x97"]
 
 
-def quoted(name):
+def in_quotes(name):
     return b'"' + name.replace(b'"', b'""') + b'"'
 
 
@@ -278,9 +313,9 @@ def files_of(name):
     """An election that funds 'x' and not the project of this name, whose one voter approves both, if a ballot can name it; and
     weights that take the project for a funded one."""
     votes = b"x," + name if b"," not in name else b"x"
-    election = (b"META\nkey;value\nbudget;2\nvote_type;approval\nPROJECTS\nproject_id;cost;selected\nx;1;1\n" + quoted(name) +
-                b";1;0\nVOTES\nvote\n" + quoted(votes) + b"\n")  # fmt: skip
-    weights = b"pb-refutation,1\ncover,0\nrole,project,weight\nleast," + quoted(name) + b",1\n"
+    election = (b"META\nkey;value\nbudget;2\nvote_type;approval\nPROJECTS\nproject_id;cost;selected\nx;1;1\n" + in_quotes(name) +
+                b";1;0\nVOTES\nvote\n" + in_quotes(votes) + b"\n")  # fmt: skip
+    weights = b"pb-refutation,1\ncover,0\nrole,project,weight\nleast," + in_quotes(name) + b",1\n"
     return {"town.pb": election, "claim.csv": weights}
 
 
@@ -445,6 +480,7 @@ QUESTIONS = {
     "read": ["sample.pb"], "groups": ["sample.pb"], "prices": ["sample.pb", "sample.prices.csv"],
     "violation": ["school.pb", "school.violation.csv"], "refutation": ["school.pb", "school.refutation.csv"],
     "both": ["hall.pb", "hall.prices.csv", "hall.violation.csv"], "explain": ["sample.pb", "sample.prices.csv"],
+    "margins": ["sample.pb", "sample.prices.csv"],
 }  # fmt: skip
 
 
@@ -457,7 +493,7 @@ def test_writing_fails(program, command):
 
 
 NOT_UNDERSTOOD = [
-    ["page", "sample.pb", "sample.prices.csv", "--json"], ["margins", "sample.pb", "sample.prices.csv", "--json"],
+    ["page", "sample.pb", "sample.prices.csv", "--json"], ["margins", "sample.pb", "--json"],
     ["tidy", "sample.pb", "sample.prices.csv", "--json"], ["folder", "--json"], ["--json"], ["help", "--json"],
     ["read", "sample.pb", "--json", "--json"], ["read", "sample.pb", "--json=yes"], ["read", "sample.pb", "--JSON"],
     ["read", "sample.pb", "-json"], ["read", "--json"], ["groups", "sample.pb", "sample.prices.csv", "--json"],
@@ -522,6 +558,7 @@ def changes_of(value):
 def one_of_each(run):
     return {command: parsed(run(command, *words, "--json").stdout) for command, words in QUESTIONS.items()} | {
         "refused": parsed(run("read", "sample.prices.csv", "--json").stdout),
+        "margins of groups": parsed(run("margins", "sample.pb", "--groups", "--json").stdout),
         "stable": parsed(run("refutation", *QUESTIONS["refutation"], "--stable", "--json").stdout),
         "no": parsed(run("prices", "district.pb", "district.short.prices.csv", "--stable", "--json").stdout)}  # fmt: skip
 
@@ -539,6 +576,7 @@ def test_schema_takes_nothing_else(validator, one_of_each):
 def test_schema_sees_what_contradicts(validator, one_of_each):
     """An answer beside what failed, a proof of nothing, conditions in another order, and digits that are none."""
     yes, no, proof, groups = one_of_each["prices"], one_of_each["no"], one_of_each["stable"], one_of_each["groups"]
+    margins, of_groups = one_of_each["margins"], one_of_each["margins of groups"]
     contradictions = [
         yes | {"answer": "no"}, no | {"answer": "yes"}, yes | {"failed": no["failed"]}, no | {"failed": None}, yes | {"groups": None},
         no | {"groups": "strict"}, proof | {"proves": None}, proof | {"proves": "stable"}, proof | {"answer": "no"},
@@ -546,6 +584,7 @@ def test_schema_sees_what_contradicts(validator, one_of_each):
         yes | {"kind": "both"}, groups | {"answer": "no"}, groups | {"measure": "costs"}, groups | {"failed": no["failed"]},
         yes | {"limit": "-1"}, yes | {"limit": "01"}, yes | {"limit": "1.0"}, yes | {"limit": ""}, yes | {"limit": "1 "},
         yes | {"grains_per_unit": 1}, one_of_each["refused"] | {"number": 16}, one_of_each["refused"] | {"answer": "no"},
+        margins | {"answer": "no"}, margins | {"kind": "group_margins"}, of_groups | {"answer": "no"}, of_groups | {"measure": "costs"},
         one_of_each["both"] | {"answer": "no"}, one_of_each["both"] | {"prices": no},
     ]  # fmt: skip
     assert all(validator.is_valid(value) for value in one_of_each.values())

@@ -11,7 +11,7 @@ import time
 
 import pytest
 
-from common import TOP, cloned, script, turned
+from common import LIBRARY_NAME, TOP, cloned, script, turned
 
 PARTS = (".gitattributes", "pbaudit", "pbaudit-library", "pbaudit-web", "include", "packaging", "HANDLES", "crates.txt",
          "CHANGELOG.md", "crates")  # fmt: skip
@@ -22,7 +22,7 @@ TOOLS = ("bash", "basename", "cat", "chmod", "cp", "dirname", "env", "find", "fl
          "rmdir", "sed", "sha256sum", "sleep", "sort", "tail", "tee", "touch", "xargs")  # fmt: skip
 BELOW = {"pb_audit", "pb_case", "pb_certificate", "pb_cohesion", "pb_command", "pb_election", "pb_explain", "pb_figures",
          "pb_group_parts", "pb_hints", "pb_input", "pb_json", "pb_markup", "pb_money", "pb_page", "pb_parts", "pb_price", "pb_price_parts",
-         "pb_records", "pb_reply", "pb_run", "pb_tables", "pb_visible", "pb_words"}  # fmt: skip
+         "pb_records", "pb_reply", "pb_report", "pb_run", "pb_tables", "pb_visible", "pb_words"}  # fmt: skip
 RT = r"""#!/usr/bin/env bash
 # What rt does here: it notes the call, does what $RT_DOES says, and leaves a program, the C library, or a library where
 # all below it are built.
@@ -377,7 +377,7 @@ def test_help_of_the_builders(place, what, word):
 
 def is_built(place):
     """Whether the library of a place is one of its sources."""
-    words = [place.copy / "packaging/built", place.copy / "lib/libpbaudit.so.1", "crates", "library", "packaging"]
+    words = [place.copy / "packaging/built", place.copy / "lib" / LIBRARY_NAME, "crates", "library", "packaging"]
     return subprocess.run(words, check=False).returncode == 0
 
 
@@ -386,7 +386,7 @@ def test_library(place):
     ended, printed, told, _ = place.call("./-a lib", what="pbaudit-library")
     assert (ended, printed) == (0, f"{place.elsewhere}/-a lib\n") and "rt: chose" in told
     names = sorted(path.name for path in (place.elsewhere / "-a lib").iterdir() if path.name[0] != ".")
-    assert names == ["libpbaudit.a", "libpbaudit.so", "libpbaudit.so.1", "pbaudit.h", "pbaudit.pc"]
+    assert names == ["libpbaudit.a", "libpbaudit.so", LIBRARY_NAME, "pbaudit.h", "pbaudit.pc"]
     pathlib.Path(f"{place.log}.linked").unlink()
     assert place.call(what="pbaudit-library", CC="cc -m64")[:2] == (0, f"{place.copy}/lib\n")
     assert "cc -m64" in pathlib.Path(f"{place.log}.linked").read_text().splitlines()

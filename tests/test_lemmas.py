@@ -85,7 +85,9 @@ class File:
                 self.blocks[""] += items if mark == "pub " else ""
         text = IMPORT.sub("", text)
         if path.suffix == ".rt":
-            self.blocks[""] = clauses_of(text).replace("::", ".").replace("crate.", crate + ".")
+            said = clauses_of(text).replace("::", ".").replace("crate.", crate + ".")
+            # a lemma of another crate
+            self.blocks[""] = re.sub(r"(?<![\w.])(?=pb_\w+\.proofs\.)", "Rattle.", said)
         else:
             self.read_declarations(SECTION.sub(lambda m: m[1] + re.sub(r"(?m)^  ", "", m[2]), text))
         self.words = {name: words_of(block) for name, block in self.blocks.items()}

@@ -11,8 +11,9 @@ import pytest
 
 import calls
 import cases
+import file_kinds
 import tables
-from c_library import CULPRITS, INPUTS, ON_GROUPS, Answer, Facts, FactsOfC
+from c_library import Answer, Facts, FactsOfC
 from common import HERE, needs
 from pbaudit import _auditor, _places
 from test_answers import ON_EXAMPLES
@@ -69,6 +70,10 @@ COMMANDS += ON_GROUP_FIGURES
 EACH_CALL = [pytest.param(calls.caller_words(each.values[0]), *each.values[1:], id=each.id) for each in COMMANDS]
 EACH_CALL += [pytest.param(call.split(" "), text.encode(), 0, id=call) for call, text in CALLS.items()]
 EACH_CALL += [pytest.param(call.split(" "), b"", number, id=call) for call, number in SAID_OF_GROUPS.items()]
+# The numbers are those of the header.
+KINDS = {"district.pb": 1, "sample.outcome.csv": 2, "sample.untidy.prices.csv": 3, "hall.violation.csv": 4,
+         "school.refutation.csv": 5, "sheet.ballots.csv": 0}  # fmt: skip
+EACH_CALL += [pytest.param(["kind", "-", name], b"%d" % number, 0, id=f"kind {name}") for name, number in KINDS.items()]
 each_call = pytest.mark.parametrize("words, text, status", EACH_CALL)
 on_examples = pytest.mark.parametrize("words, text, status", COMMANDS)
 
@@ -97,27 +102,15 @@ def test_symbols_are_the_functions_of_the_header(library, name):
     interface, functions = interface_of(library / "pbaudit.h")
     version = f"PBAUDIT_{interface}"
     assert sorted(symbols) == sorted([version, *(f"{each}@@{version}" for each in functions)] if is_shared else functions)
-    assert len(functions) == 8
+    assert len(functions) == 9
 
 
 def test_shared_library_has_the_name_of_its_interface(library):
     """A program asks for that name, and the package of Python as well."""
     name = f"libpbaudit.so.{interface_of(library / 'pbaudit.h')[0]}"
     told = told_by(["readelf", "-d", name], library).stdout.decode()
-    assert re.findall(r"\(SONAME\) .*\[(.*)\]", told) == [name] == [_places._LIBRARY]
+    assert re.findall(r"\(SONAME\) .*\[(.*)\]", told) == [name] == [_places.LIBRARY]
     assert os.readlink(library / "libpbaudit.so") == name and not (library / name).is_symlink()
-
-
-def test_numbers_of_the_header(library):
-    """They are those by which the package asks, and in which more is told."""
-    numbers, at, listed = {}, 0, "".join(re.findall(r"enum \{[^}]*\}", (library / "pbaudit.h").read_text()))
-    for name, given in re.findall(r"PBAUDIT_(\w+)(?: = (\d+))?", listed):
-        numbers[name] = at = int(given or at + 1)
-    wanted = {f"{name.upper()}_FILE": at for at, name in enumerate(INPUTS, 1)}
-    names = [*enumerate(_auditor._QUESTIONS), *CULPRITS.items()]
-    wanted |= {name.upper().replace("+", "_PLUS"): at for at, name in names}
-    wanted |= {name.upper(): at for at, name in enumerate(ON_GROUPS) if name}
-    assert numbers == wanted
 
 
 def asked_of_libraries(program):
@@ -158,12 +151,6 @@ def test_it_needs_the_c_library_alone(library):
     assert re.search(r"GNU_STACK.* RW ", told_by(["readelf", "-lW", "libpbaudit.so"], library).stdout.decode())
 
 
-def test_room_of_facts():
-    """It is as much as the package has."""
-    facts = _auditor._Library.FACTS
-    assert (ctypes.sizeof(facts), ctypes.alignment(facts)) == (FACTS, ctypes.alignment(FactsOfC))
-
-
 @on_examples
 def test_example(run, c_library, words, text, status):
     files = files_of(words)
@@ -189,7 +176,7 @@ def reported(run, words, **given):
     """What the program prints, and what pbaudit_report has to say."""
     ran = run(*words, **given)
     command, *_ = calls.parts(words)
-    is_object = command not in ("margins", "tidy", "group_margins")
+    is_object = command != "tidy"
     object_line = run(*words, "--json", **given).stdout if is_object else b""
     return ran, calls.report(command, ran.stdout, ran.stderr, object_line)
 
@@ -239,6 +226,11 @@ def test_page_of_groups_in_no_language(c_library):
     facts = FactsOfC.from_buffer_copy(b"\xaa" * FACTS)
     assert c_library.groups_page(*words, ctypes.byref(facts), out, 9, ctypes.byref(needed)) == 3
     assert (out.raw, needed.value, facts.value()) == (b"\xaa" * 9, 0, Facts())
+
+
+@pytest.mark.parametrize("file, kind", file_kinds.EACH)
+def test_kind(c_library, file, kind):
+    assert c_library.kind(file) == kind
 
 
 @pytest.fixture(scope="module", params=["shared", "static"])

@@ -25,7 +25,8 @@ def link(room):
     needs("cc", "ld", "objcopy", "ar", "nm", "readelf")
     for folder in ("packaging", "include", "made"):
         (room / folder).mkdir()
-    shutil.copy(TOP / "packaging/link-library", room / "packaging")
+    for name in ("link-library", "library-name"):
+        shutil.copy(TOP / "packaging" / name, room / "packaging")
 
     def linked(header=HEADER, source=SOURCE):
         (room / "include/pbaudit.h").write_text(header)
@@ -52,11 +53,11 @@ def test_symbols_are_what_the_header_declares(link):
 
 
 @pytest.mark.parametrize("header, source, told", [
-    (HEADER.replace("7", "seven"), SOURCE, "declares no functions, or no PBAUDIT_INTERFACE"),
-    (HEADER.splitlines()[0], SOURCE, "declares no functions, or no PBAUDIT_INTERFACE"),
+    (HEADER.replace("7", "seven"), SOURCE, "has no PBAUDIT_INTERFACE"), (HEADER.replace("7", "7\n#define PBAUDIT_INTERFACE 8"), SOURCE, "has no"),
+    (HEADER.splitlines()[0] + "\n", SOURCE, "declares no functions"),
     (HEADER, SOURCE.replace("pbaudit_two", "pbaudit_deux"), "pbaudit_two"),
     (HEADER, SOURCE + "uint8_t elsewhere(void); uint8_t pbaudit_four(void) { return elsewhere(); }", "elsewhere"),
-], ids=["no number", "no function", "a function isn't there", "something is wanted of others"])  # fmt: skip
+], ids=["no number", "two numbers", "no function", "a function isn't there", "something is wanted of others"])  # fmt: skip
 def test_refusal(link, header, source, told):
     done, made = link(header, source)
     assert done.returncode != 0 and told in done.stderr

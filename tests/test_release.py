@@ -13,7 +13,7 @@ import zipfile
 
 import pytest
 
-from common import TOP, cloned, needs, turned
+from common import LIBRARY_NAME, TOP, cloned, needs, turned
 
 RELEASE = TOP / "release"
 MOST = 10_000_000
@@ -24,7 +24,7 @@ LIBRARY = EVERY | {"library", "cc", "ld"}
 ARM_LIBRARY = EVERY | {"library", "arm-cc", "arm-ld"}
 PAGE = EVERY | {"page", "wasm-opt", "builtins", "esbuild"}
 RESTS_ON = {
-    "libpbaudit.so": LIBRARY, "libpbaudit.so.1": LIBRARY, "libpbaudit.a.xz": LIBRARY | {"xz"}, "pbaudit.h": LIBRARY, "pbaudit.pc": LIBRARY,
+    "libpbaudit.so": LIBRARY, "libpbaudit.a.xz": LIBRARY | {"xz"}, "pbaudit.h": LIBRARY, "pbaudit.pc": LIBRARY,
     "-aarch64.tar.xz": ARM_LIBRARY | {"xz"}, "pbaudit.html": PAGE, ".tgz": PAGE | {"tsc", "zlib"},
     "aarch64.whl": ARM_LIBRARY | {"python", "zlib"}, "-any.whl": PAGE | {"python", "zlib"}, ".whl": LIBRARY | {"python", "zlib"},
 }  # fmt: skip
@@ -32,11 +32,13 @@ RESTS_ON = {
 OF_PACKAGES = {"gzip", "dpkg-deb"}
 RESTS_ON["pbaudit.spdx.json"] = set().union(OF_PACKAGES, *RESTS_ON.values())
 # The glibc for which each is.
-GLIBC = {"pbaudit": (2, 28), "libpbaudit.so.1": (2, 17)}
+GLIBC = {"pbaudit": (2, 28), LIBRARY_NAME: (2, 17)}
 
 
 def rests_on(name):
-    """What a file is made of. The version is a part of the names of packages."""
+    """What a file is made of. The version is a part of the names of packages, and the number of the interface of that of the
+    library, which in release/ may be another than here."""
+    name = re.sub(r"\.so\.\d+$", ".so", name)
     return next((parts for end, parts in RESTS_ON.items() if name.endswith(end)), EVERY)
 
 
@@ -207,7 +209,7 @@ def test_hardening(again, name):
 
 def test_hardening_of_the_library_for_arm(again, room):
     with lzma.open(the(again, "libpbaudit-aarch64.tar.xz")) as packed, tarfile.open(fileobj=packed) as files:
-        (room / "library").write_bytes(files.extractfile("aarch64/libpbaudit.so.1").read())
+        (room / "library").write_bytes(files.extractfile(f"aarch64/{LIBRARY_NAME}").read())
     assert wants_of(room / "library") == []
 
 
@@ -238,7 +240,7 @@ def inside(wheel, end):
 
 def test_wheel_has_library_and_program(again):
     wheel = the(again, "*x86_64.whl")
-    assert inside(wheel, "/libpbaudit.so.1") == (again / "libpbaudit.so.1").read_bytes()
+    assert inside(wheel, f"/{LIBRARY_NAME}") == (again / LIBRARY_NAME).read_bytes()
     assert inside(wheel, ".data/scripts/pbaudit") == (TOP / "python/backend/entry.py").read_bytes()
     assert inside(wheel, "pbaudit/bin/pbaudit") == (again / "pbaudit").read_bytes()
     assert "manylinux_2_28_x86_64" in wheel.name
@@ -254,11 +256,11 @@ def test_wheel_for_any_platform_has_the_package_for_javascript(again):
 def test_wheel_for_arm_has_its_library(again):
     wheel = the(again, "*aarch64.whl")
     with lzma.open(the(again, "libpbaudit-aarch64.tar.xz")) as packed, tarfile.open(fileobj=packed) as files:
-        assert files.getnames() == [f"aarch64/{name}" for name in ("libpbaudit.so.1", "libpbaudit.so", "libpbaudit.a", "pbaudit.h", "pbaudit.pc")]
-        assert files.getmember("aarch64/libpbaudit.so").linkname == "libpbaudit.so.1"
-        library = files.extractfile("aarch64/libpbaudit.so.1").read()
+        assert files.getnames() == [f"aarch64/{name}" for name in (LIBRARY_NAME, "libpbaudit.so", "libpbaudit.a", "pbaudit.h", "pbaudit.pc")]
+        assert files.getmember("aarch64/libpbaudit.so").linkname == LIBRARY_NAME
+        library = files.extractfile(f"aarch64/{LIBRARY_NAME}").read()
         assert files.extractfile("aarch64/pbaudit.h").read() == (TOP / "include/pbaudit.h").read_bytes()
-    assert inside(wheel, "/libpbaudit.so.1") == library
+    assert inside(wheel, f"/{LIBRARY_NAME}") == library
     # Of ELF's machines ARM's of 64 bits is number 183.
     assert library[:4] == b"\x7fELF" and int.from_bytes(library[18:20], "little") == 183
     assert "manylinux_2_17_aarch64" in wheel.name

@@ -44,16 +44,19 @@ def check(run, auditor, program, room, words, files):
     cases.write_files(room, files)
     question, ran = calls.question(words, files), run(*words, cwd=room)
     report, other = auditor.ask(question), _auditor._Program(str(program)).ask(question)
-    beside, is_object = calls.beside(words[0], ran.stdout, ran.stderr), words[0] not in ("margins", "tidy")
+    beside, is_object = calls.beside(words[0], ran.stdout, ran.stderr), words[0] != "tidy"
     for each in (report, other):
         assert (each.status, each.text) == (ran.returncode, ran.stdout)
     assert report.found == other.found == (json.loads(run(*words, "--json", cwd=room).stdout) if is_object else beside["refusal"] or {})
-    assert [*report.notes] == beside["notes"]
+    assert [*report.notes] == [*other.notes] == beside["notes"]
     if report.status < 2:
         assert report.hint is other.hint is beside["hint"] is None
     else:
         line, told = beside["hint"]["line"], beside["hint"]["sentences"]
         assert (report.hint.line, report.hint.sentences, other.hint.line) == (line, told, line)
+        # The program's name the file, and there are no notes among them.
+        assert calls.hint_in("".join(f"{each}\n" for each in other.hint.sentences).encode()) == (line, told)
+        assert len(other.hint.sentences) == len(told)
     if explains(words) and report.status < 2:
         check_sentences(report.text.decode(), report.found, question.certificate)
 
@@ -115,7 +118,7 @@ def test_by_chance(run, auditor, program, seed, by_chance, room):
 
 
 def test_each_kind_is_tried():
-    """With an object, as a table, and refused; and each condition and test that fails first."""
+    """With an object, as a text, and refused; and each condition and test that fails first."""
     tried = [(words[0], row.printed[0].split(" ")[0]) for name in TABLES for row, words, _ in tables.asked(name)]
     for command in COMMANDS:
         assert (command, "refused") in tried and any(one == command and told != "refused" for one, told in tried), command

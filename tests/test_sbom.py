@@ -7,14 +7,14 @@ import shutil
 
 import pytest
 
-from common import TOP, ran
+from common import LIBRARY_NAME, TOP, ran
 from test_release import RELEASE, made_of, rests_on, sum_of
 
 SPDX = "pbaudit.spdx.json"
 RUNTIME = "builtins"
 SOURCES = {"version", "crates", "library", "page", "python", "packaging"}
-# What is linked of the proved code beside the program, by how its name ends.
-LINKED = (".so.1", ".a.xz", ".tar.xz", ".whl", ".html", ".tgz")
+# What has the proved code: the program, and the rest by how its name ends.
+LINKED = re.compile(r"pbaudit|.*(\.so\.\d+|\.a\.xz|\.tar\.xz|\.whl|\.html|\.tgz)")
 
 
 def read(folder):
@@ -32,7 +32,7 @@ def kits_crates(root):
 
 
 def is_linked(name):
-    return name == "pbaudit" or name.endswith(LINKED)
+    return LINKED.fullmatch(name) is not None
 
 
 def wanted_crates(name):
@@ -105,7 +105,7 @@ xz a packer
 zlib 1
 gzip a zipper
 dpkg-deb """ + "\n"
-NAMES = ("pbaudit", "_pbaudit", "pbaudit.1", "pbaudit.h", "libpbaudit.so.1", "libpbaudit.a.xz", "libpbaudit-aarch64.tar.xz",
+NAMES = ("pbaudit", "_pbaudit", "pbaudit.1", "pbaudit.h", LIBRARY_NAME, "libpbaudit.a.xz", "libpbaudit-aarch64.tar.xz",
          "pbaudit.html", "pbaudit-0.2.0.tgz", "pbaudit-0.2.0-py3-none-manylinux_2_28_x86_64.whl", "pbaudit-0.2.0-py3-none-manylinux2014_aarch64.whl",
          "pbaudit-0.2.0-py3-none-any.whl")  # fmt: skip
 

@@ -8,7 +8,7 @@ import shutil
 
 import pytest
 
-from common import TOP, needs, ran, script
+from common import LIBRARY_NAME, TOP, needs, ran, script
 
 DATED = re.compile(r"^## \[(\d+\.\d+\.\d+)\] - \d{4}-\d\d-\d\d$", re.MULTILINE)
 # The versions under which more than one set of bytes was made, before there were lists.
@@ -107,8 +107,8 @@ def test_what_is_wrong_is_seen(room, name):
 # What stands in for what builds: each writes what the word in the file $WORD is. It builds nothing that is there.
 STAND_INS = {
     "pbaudit": 'mkdir -p "$here/crates/pbaudit/out"; cp "$WORD" "$here/crates/pbaudit/out/pbaudit.o"',
-    "pbaudit-library": 'to=${3:-$1}; mkdir -p "$to"; for name in so.1 a; do cp "$WORD" "$to/libpbaudit.$name"; done; '
-                       'ln -sf libpbaudit.so.1 "$to/libpbaudit.so"; touch "$to/pbaudit.h" "$to/pbaudit.pc"',
+    "pbaudit-library": f'to=${{3:-$1}}; mkdir -p "$to"; for name in {LIBRARY_NAME} libpbaudit.a; do cp "$WORD" "$to/$name"; done; '
+                       f'ln -sf {LIBRARY_NAME} "$to/libpbaudit.so"; touch "$to/pbaudit.h" "$to/pbaudit.pc"',
     "pbaudit-web": 'mkdir -p "$1"; for name in html wasm; do cp "$WORD" "$1/pbaudit.$name"; done',
     "packaging/link": 'cp "$1" "$2"',
     "packaging/javascript": 'mkdir "$3/package"; for name in command.js pbaudit.wasm package.json; do cp "$WORD" "$3/package/$name"; done; '

@@ -4,7 +4,6 @@ reference that ends by an error of its own answers nothing, and isn't caught by 
 import importlib
 import itertools
 import os
-import re
 import shutil
 import sys
 import tempfile
@@ -14,17 +13,9 @@ import pytest
 import cases
 import saying
 from common import HERE
+from tables import changes
 
 MOST_CASES = 2000
-
-
-def rules():
-    """The rows of the table: a file of the reference, the right rule behind `-`, and the wrong one behind `+`."""
-    for part in ("\n" + (HERE / "tables/wrong_rules.txt").read_text("utf-8")).split("\n== ")[1:]:
-        file, _, rows = part.partition("\n")
-        for name, change in re.findall(r"^(?![-+] )(.*)\n((?:[-+] .*\n?)+)", rows, re.MULTILINE):
-            right, wrong = ("\n".join(re.findall(rf"^\{sign} (.*)$", change, re.MULTILINE)) for sign in "-+")
-            yield pytest.param(file, right, wrong, id=name)
 
 
 def changed(room, file, right, wrong):
@@ -83,7 +74,7 @@ def differs(answer, case, room, wanted):
         return False
 
 
-@pytest.mark.parametrize("file, rule, wrong_rule", rules())
+@pytest.mark.parametrize("file, rule, wrong_rule", changes("wrong_rules.txt"))
 def test_wrong_rule_is_caught(right, room, file, rule, wrong_rule):
     answer = changed(room, file, rule, wrong_rule)
     assert any(differs(answer, *each) for each in right)

@@ -46,7 +46,9 @@ class Part(NamedTuple):
 
 # What of the package for JavaScript its command needs.
 MODULE = ("command.js", "pbaudit.wasm", "package.json")
-LIBRARY = Part("libpbaudit.so.1", "lib/libpbaudit.so.1", ["pbaudit-library"], ("include", "pbaudit-library"))
+# By the name that the package looks for, in which the number of its interface stands.
+LIBRARY_NAME = re.search(r'^LIBRARY = "(.*)"$', (PYTHON / "pbaudit/_places.py").read_text(encoding="utf-8"), re.MULTILINE)[1]
+LIBRARY = Part(LIBRARY_NAME, f"lib/{LIBRARY_NAME}", ["pbaudit-library"], ("include", "pbaudit-library"))
 PROGRAM = Part("pbaudit", "crates/pbaudit/out/pbaudit", ["pbaudit", "--build"], ())
 
 

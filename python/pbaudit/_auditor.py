@@ -2,23 +2,24 @@
 runs as the same command.
 
 All answer the same: an exit status of 0, 1 or 2, and an object (docs/JSON.md). What is printed for people is handed on as it is,
-and nothing is read from it.
+and nothing is read from it but notes and hints, which the program tells on standard error alone.
 """
 import ctypes
 import json
 import os
 import pathlib
+import reprlib
 import subprocess
 import tempfile
 from dataclasses import dataclass, replace
 from typing import Any, Callable, Dict, List, Literal, Optional, Protocol, Tuple, Union
 
 from . import _places
-from .objects import Found, object_of
+from .objects import Found, election_notes, object_of
 from .records import line_of_record
 
 _HOW_TO_BUILD = (
-    "neither libpbaudit.so.1 nor the program pbaudit was found; from the repository of pbaudit, install this package again "
+    f"neither {_places.LIBRARY} nor the program pbaudit was found; from the repository of pbaudit, install this package again "
     "with pip install ./python, or the program with ./install into a folder on the PATH"
 )
 
@@ -98,8 +99,8 @@ class Hint:
 
 @dataclass(frozen=True)
 class Report:
-    """What answers a question: the exit status; the object, which is empty where a table or a page is given; what is printed,
-    for people, which the program is asked for where it is wanted; the notes beside it; and what is told of a refusal."""
+    """What answers a question: the exit status; the object, which is empty where a certificate or a page is given; what is
+    printed, for people, which the program is asked for where it is wanted; the notes beside it; and what is told of a refusal."""
 
     status: int
     found: Found
@@ -122,18 +123,21 @@ class Auditor(Protocol):
         """Whether it has this command, which an older program may lack."""
 
 
-# What the library can be asked, by its numbers from 0, of which the tables are no objects.
+# What the library can be asked, by its numbers from 0.
 _QUESTIONS = ("read", "prices", "violation", "refutation", "both", "explain", "margins", "tidy", "groups_by_cost",
               "groups_by_count", "explain_groups_by_cost", "explain_groups_by_count", "group_margins_by_cost",
               "group_margins_by_count")
-_TABLES = ("margins", "tidy", "group_margins")
+# What is answered by a text alone, and no object.
+_TEXTS = ("tidy",)
 # What is asked by one of two measures; and what the program answers with --groups, by the command that it belongs to.
 _BY_MEASURE = ("groups", "explain_groups", "group_margins")
+# What has a row for each project, or for each group, and so is about as long as the election.
+_TABLES = ("margins", "group_margins")
 _WITH_GROUPS = {"explain_groups": "explain", "group_margins": "margins", "groups_page": "page"}
 _PAGES = ("page", "groups_page")
 _WITH_MODE = ("prices", "both", "explain", "page")
 # The questions that take the same files and are answered by an object, which says why one is refused.
-_OF_SAME_FILES = {"margins": "prices", "tidy": "prices", "group_margins": "groups", "page": "explain", "groups_page": "groups"}
+_OF_SAME_FILES = {"tidy": "prices", "page": "explain", "groups_page": "groups"}
 _NOTHING_FUNDED = b"pb-outcome,1\n"
 _OUT_OF_MEMORY = "pbaudit: fault memory"
 _REFUSED, _USAGE, _MEMORY = 2, 3, 4
@@ -180,7 +184,7 @@ class _Library:
     def _read(question: Question, status: int, data: bytes) -> Report:
         line, _, rest = data.partition(b"\n")
         beside = json.loads(line)
-        if question.command in _TABLES:
+        if question.command in _TEXTS:
             found, text = beside["refusal"] or {}, rest
         else:
             line, _, text = rest.partition(b"\n")
@@ -213,12 +217,13 @@ class _Library:
     @staticmethod
     def room(question: Question) -> int:
         """How many bytes an answer is given at first; where it needs more, all is audited once more. A page mostly has less
-        than 4 MB, and an object and its lines a few thousand bytes. Behind these the text of `tidy` is mostly no longer
-        than the certificate, and that of `margins` than the election."""
+        than 4 MB, and an object and its lines a few thousand bytes. Beside these the text of `tidy` is mostly no longer
+        than the certificate, and object and table of margins together no longer than the election twice."""
         if question.command in _PAGES:
             return 2**22
-        tables = {"tidy": question.certificate, "margins": question.election, "group_margins": question.election}
-        return 2**15 + len(tables.get(question.command) or b"")
+        if question.command == "tidy":
+            return 2**15 + len(question.certificate or b"")
+        return 2**15 + (2 * len(question.election) if question.command in _TABLES else 0)
 
     @staticmethod
     def words(question: Question) -> List[Any]:
@@ -244,28 +249,47 @@ class _Program:
         self._run_by, self._path = [os.path.abspath(first) if os.sep in first else first, *rest], run[-1]
 
     def ask(self, question: Question) -> Report:
-        if question.command in (*_TABLES, *_PAGES):
+        if question.command in (*_TEXTS, *_PAGES):
             return self._asked_for_text(question)
         status, line, told = self._answer(question, "--json")
         try:
-            found = object_of(line, status)
-        except ValueError as why:
-            raise RuntimeError(f"{self._path} answers {why}") from why
-        hint = self._hint(question, found, told) if status == _REFUSED else None
-        return Report(status, found, lambda: self._answer(question)[1], hint=hint)
+            return self._read(question, status, line, told)
+        except (KeyError, TypeError, ValueError) as why:
+            answer = f"{reprlib.repr(line)} with status {status}"
+            raise RuntimeError(f"{self._path} answers {answer}, which this package can't read") from why
+
+    def _read(self, question: Question, status: int, line: bytes, told: bytes) -> Report:
+        found = object_of(line, status)
+        notes, sentences = self._notes_and_hint(told)
+        if found["kind"] == "election":
+            # They are among the lines that are printed.
+            notes = tuple(f"note: {note}" for note in election_notes(found["election"]))
+        hint = self._hint(question, found, sentences) if status == _REFUSED else None
+        return Report(status, found, lambda: self._answer(question)[1], notes, hint)
 
     def _asked_for_text(self, question: Question) -> Report:
         status, text, _ = self._answer(question)
-        return _refusal(self, question) if status == _REFUSED else Report(status, {}, lambda: text)
+        if status != _REFUSED:
+            return Report(status, {}, lambda: text)
+        refusal = _refusal(self, question)
+        # A certificate has no notes, which the other question may have.
+        return replace(refusal, notes=()) if question.command in _TEXTS else refusal
 
     def has(self, command: str) -> bool:
         words = [*self._run_by, command, "--help"]
         return subprocess.run(words, stdin=subprocess.DEVNULL, capture_output=True, check=False).returncode == 0
 
     @staticmethod
-    def _hint(question: Question, found: Found, told: bytes) -> Optional[Hint]:
-        """What is told on standard error, as it comes."""
-        name, sentences = found["input"], tuple(filter(None, told.decode("utf-8", "replace").split("\n")))
+    def _notes_and_hint(told: bytes) -> Tuple[Tuple[str, ...], Tuple[str, ...]]:
+        """What is told on standard error: notes, behind the name of the election's file, and the sentences of a hint as they
+        come."""
+        name, lines = "election: ", list(filter(None, told.decode("utf-8", "replace").split("\n")))
+        notes = [line for line in lines if line.startswith(f"{name}note: ")]
+        return tuple(note[len(name):] for note in notes), tuple(line for line in lines if line not in notes)
+
+    @staticmethod
+    def _hint(question: Question, found: Found, sentences: Tuple[str, ...]) -> Optional[Hint]:
+        name = found["input"]
         line = line_of_record(_files(question)[name], b";" if name == "election" else b",", found["record"])
         return Hint(line, sentences, names_file=True) if sentences else None
 
@@ -325,8 +349,8 @@ class _Program:
 
 
 def _refusal(auditor: Auditor, question: Question) -> Report:
-    """Why a file is refused, where the answer is a table or a page and so no object: by another question that takes the
-    same files."""
+    """Why a file is refused, where the answer is a certificate or a page and so no object: by another question that takes
+    the same files."""
     other = replace(question, command=_OF_SAME_FILES[question.command])
     if question.command == "tidy":
         # That takes no outcome.

@@ -18,9 +18,9 @@ from typing import List, Optional
 
 _PACKAGE = pathlib.Path(__file__).resolve().parent
 _CHECKOUT = _PACKAGE.parent.parent
-# The number is that of the interface which this package calls (`PBAUDIT_INTERFACE` of the header).
-_LIBRARY = "libpbaudit.so.1"
-_OWN, _OWN_PROGRAM = _PACKAGE / _LIBRARY, _PACKAGE / "bin" / "pbaudit"
+# The number is that of the interface which this package calls (`PBAUDIT_INTERFACE` of the header). One of another number isn't found.
+LIBRARY = "libpbaudit.so.2"
+_OWN, _OWN_PROGRAM = _PACKAGE / LIBRARY, _PACKAGE / "bin" / "pbaudit"
 # What the command that pip installs has within it.
 _ENTRY = b"from pbaudit.__main__ import main"
 _MODULE = _PACKAGE / "node" / "command.js"
@@ -33,7 +33,7 @@ def library() -> Optional[pathlib.Path]:
     """The library, or None."""
     if _MODULE.is_file():
         return None
-    return _OWN if _OWN.is_file() else _of_checkout(f"lib/{_LIBRARY}")
+    return _OWN if _OWN.is_file() else _of_checkout(f"lib/{LIBRARY}")
 
 
 def program() -> Optional[pathlib.Path]:

@@ -36,7 +36,7 @@ MOST_WORKERS = 4096
 _CERTIFICATES: Dict[str, List[str]] = {"read": [], "groups": [], "both": ["prices", "violation"], "folder": []}
 _WITH_OUTCOME = ("groups", "prices", "violation", "refutation", "both", "explain", "margins")
 _WITH_MODE = ("prices", "both", "explain", "folder")
-_WITH_JSON = ("read", "groups", "prices", "violation", "refutation", "both", "explain", "folder")
+_WITH_JSON = ("read", "groups", "prices", "violation", "refutation", "both", "explain", "margins", "folder")
 # What is asked where --groups stands in the certificate's place.
 _ON_GROUPS = {"explain": "explain_groups", "margins": "group_margins"}
 

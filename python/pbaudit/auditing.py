@@ -17,7 +17,6 @@ from ._auditor import Hint, Mode, PageWords, Question, Report, Satisfaction, ask
 from .files import MOST_BYTES, File, bytes_of, path_of
 from .kept import Kept, keep, source_of, stamp_of
 from .objects import Found, amount_of, election_notes, line_of
-from .records import records
 from .sentences import group_sentences, rows_of
 from .shown import visible
 from .tables import Result
@@ -329,13 +328,13 @@ def margins(election: File, certificate: File, outcome: Optional[File] = None) -
     >>> first.project, first.cost == first.paid
     ('a', True)
     """
-    text = Asked("margins", election, certificate=certificate, outcome=outcome).text()
-    _, (_, grains_per_unit), _, *rows = records(text, b",")
-    return tuple(
-        ProjectMargins(project.decode(), funded == b"1", int(supporters),
-                       *(Fraction(int(grains), int(grains_per_unit)) for grains in amounts))
-        for project, funded, supporters, *amounts in rows
-    )
+    found = Asked("margins", election, certificate=certificate, outcome=outcome).object()
+    return tuple(_margins(project, found["grains_per_unit"]) for project in found["projects"])
+
+
+def _margins(project: Found, grains_per_unit: int) -> ProjectMargins:
+    cost, paid, left, offer = (Fraction(int(project[key]), grains_per_unit) for key in ("cost", "paid", "left", "offer"))
+    return ProjectMargins(project["project"], project["funded"], project["supporters"], cost, paid, left, offer)
 
 
 def explain(election: File, certificate: File, outcome: Optional[File] = None, *, stable: bool = False,

@@ -8,7 +8,6 @@ from .amounts import MILLION, common_denominator
 from .auditing import Asked, answered
 from .files import File
 from .objects import Found, amount_of, limit_notes, line_of
-from .records import records
 from .tables import Result
 from .values import AnyInstance, AnyProject, Ballots, Profile, ballots_of, each_ballot, funded_of, projects_of
 from .writing import election_file
@@ -173,15 +172,9 @@ def group_margins(election: File, outcome: Optional[File] = None, *,
     ...     print(group.project, group.voters, group.need, group.share)
     c 1 13 10/3
     """
-    by = measured(satisfaction)
-    text = Asked("group_margins", election, outcome=outcome, satisfaction=by).text()
-    _, _, (_, denominator), _, *rows = records(text, b",")
-    unit = int(denominator) * MILLION
-    return tuple(
-        GroupMargins(project.decode(), int(voters), Fraction(int(most), MILLION if by == "cost" else 1),
-                     *(Fraction(int(amount), unit) for amount in amounts))
-        for project, voters, most, *amounts in rows
-    )
+    found = Asked("group_margins", election, outcome=outcome, satisfaction=measured(satisfaction)).object()
+    figures = (_figures(group, measured(found["measure"])) for group in found["groups"])
+    return tuple(GroupMargins(each.project, each.voters, each.most, each.need, each.share, each.missing) for each in figures)
 
 
 def groups_by_cost(election: bytes, outcome: Optional[bytes]) -> Optional[GroupsVerdict]:

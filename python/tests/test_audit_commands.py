@@ -11,7 +11,7 @@ import unittest
 from unittest import mock
 
 import pbaudit
-from pbaudit import __main__ as command_line, _places, audit_commands
+from pbaudit import __main__ as command_line, _auditor, _places, audit_commands
 
 REPOSITORY = pathlib.Path(__file__).resolve().parents[2]
 EXAMPLES = REPOSITORY / "examples"
@@ -27,6 +27,7 @@ MORE = (
     "margins sample.pb --outcome sample.outcome.csv sample.prices.csv", "explain sample.pb --groups",
     "explain school.pb --groups --satisfaction count", "explain sample.pb --outcome sample.outcome.csv --groups --json",
     "margins sample.pb --groups", "margins --groups school.pb --satisfaction count", "margins missing --groups",
+    "margins sample.pb sample.prices.csv --json", "margins school.pb --groups --json", "margins school.pb missing --json",
     "explain sample.pb --groups --outcome missing", "folder .", "folder . --stable", "folder missing", "folder . --json",
     "folder . --json --stable --cover", "folder missing --json", "folder . --json --workers 2", "both sample.pb x x --json",
 )
@@ -54,7 +55,7 @@ class Commands(unittest.TestCase):
         """The text, the status, and what stands beside it for people."""
         with tempfile.TemporaryDirectory() as room:
             shutil.copytree(pathlib.Path(pbaudit.__file__).parent, f"{room}/pbaudit", ignore=shutil.ignore_patterns("bin"))
-            shutil.copy(_places.library(), f"{room}/pbaudit/libpbaudit.so.1")
+            shutil.copy(_places.library(), f"{room}/pbaudit/{_places.LIBRARY}")
             given = {"PATH": "/usr/bin:/bin", "PYTHONPATH": room, "PYTHONDONTWRITEBYTECODE": "1"}
             for words in lines():
                 with self.subTest(words=words):
@@ -97,7 +98,7 @@ class Commands(unittest.TestCase):
         shown_name = "a\\u{1b}[31m\\u{202e}\\nb\\u{3164}"
         with tempfile.TemporaryDirectory() as room:
             shutil.copytree(pathlib.Path(pbaudit.__file__).parent, f"{room}/pbaudit", ignore=shutil.ignore_patterns("bin"))
-            shutil.copy(_places.library(), f"{room}/pbaudit/libpbaudit.so.1")
+            shutil.copy(_places.library(), f"{room}/pbaudit/{_places.LIBRARY}")
             given = {"PATH": "/usr/bin:/bin", "PYTHONPATH": room, "PYTHONDONTWRITEBYTECODE": "1"}
             shutil.copy(EXAMPLES / "sample.prices.csv", f"{room}/{name}")
             shutil.copy(EXAMPLES / "sample.pb", f"{room}/good{name}")
@@ -138,7 +139,7 @@ class Places(unittest.TestCase):
     def setUp(self):
         self.room = pathlib.Path(tempfile.mkdtemp())
         self.addCleanup(shutil.rmtree, self.room)
-        self.own = self.room / "pbaudit" / "libpbaudit.so.1"
+        self.own = self.room / "pbaudit" / "libpbaudit.so.2"
         self.module = self.room / "pbaudit" / "node" / "command.js"
         for folder in ("pbaudit", "pbaudit/bin", "path"):
             (self.room / folder).mkdir()
@@ -185,7 +186,7 @@ class Places(unittest.TestCase):
         """And no command of its name, which would run itself, nor what is built beside it."""
         self.assertIsNone(_places.module())
         self.put("path", b"#!/usr/bin/python3\n")
-        for name in ("lib/libpbaudit.so.1", "crates/pbaudit/out/pbaudit"):
+        for name in ("lib/libpbaudit.so.2", "crates/pbaudit/out/pbaudit"):
             (self.room / "none" / name).parent.mkdir(parents=True)
             (self.room / "none" / name).write_bytes(b"")
         for version in ("v18.0.0", "v20.19.2", "v100.1.0"):
@@ -203,9 +204,21 @@ class Places(unittest.TestCase):
                 _places.module()
 
     def test_a_checkout(self):
-        built = {"lib/libpbaudit.so.1": _places.library, "crates/pbaudit/out/pbaudit": _places.program}
+        built = {"lib/libpbaudit.so.2": _places.library, "crates/pbaudit/out/pbaudit": _places.program}
         for name, find in built.items():
             path = self.room / "none" / name
             path.parent.mkdir(parents=True)
             path.write_bytes(b"")
             self.assertEqual(find(), path)
+
+    def test_a_library_of_another_number_is_not_found(self):
+        """Neither where it is built nor in the package; the number is told that is looked for."""
+        for name in ("libpbaudit.so.1", "libpbaudit.so.3", "libpbaudit.so"):
+            for folder in (self.room / "none/lib", self.own.parent):
+                folder.mkdir(parents=True, exist_ok=True)
+                (folder / name).write_bytes(b"")
+        self.assertIsNone(_places.library())
+        with self.assertRaisesRegex(ImportError, "^neither libpbaudit.so.2 nor the program pbaudit was found; "):
+            _auditor._find()
+        path = self.put("path")
+        self.assertEqual((_places.library(), _places.program()), (None, path))

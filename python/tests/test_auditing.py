@@ -20,7 +20,6 @@ REPOSITORY = pathlib.Path(__file__).resolve().parents[2]
 EXAMPLES = REPOSITORY / "examples"
 PROGRAM = REPOSITORY / "crates" / "pbaudit" / "out" / "pbaudit"
 AUDITS = ("read", "prices", "violation", "refutation", "both", "explain", "margins", "tidy")
-TABLES = ("margins", "tidy")
 OBJECT = {"answer": "yes", "kind": "prices", "version": 1}
 
 
@@ -49,6 +48,14 @@ def question_of(words):
     return _auditor.Question(command, (EXAMPLES / election).read_bytes(), *certificates, outcome=outcome, mode=mode)
 
 
+def program_of(room, script):
+    """A program in a folder, which is a script of the shell."""
+    path = pathlib.Path(room, "pbaudit")
+    path.write_text(f"#!/bin/sh\n{script}\n")
+    path.chmod(0o755)
+    return path
+
+
 class Answers(unittest.TestCase):
     def test_both_answer_as_the_examples_say(self):
         """The library and the program, by the same objects."""
@@ -60,7 +67,7 @@ class Answers(unittest.TestCase):
                 self.assertEqual((answer.status, answer.text), (status, text.encode()))
                 self.assertEqual((other.status, other.found), (status, answer.found))
                 self.assertEqual((other.text, other.hint is None), (answer.text, status < 2))
-                self.assertEqual(answer.found == {}, words[0] in TABLES and status == 0)
+                self.assertEqual(answer.found == {}, words[0] == "tidy" and status == 0)
                 told.add((answer.found.get("kind"), (answer.found.get("failed") or {}).get("name")))
         self.assertLess({("prices", "S5"), ("violation", "V4"), ("refusal", None), ("both", None)}, told)
 
@@ -105,13 +112,34 @@ class Answers(unittest.TestCase):
         return bool(verdict), verdict.says_of_groups, verdict.says_little
 
     def test_an_older_program(self):
-        """It doesn't know --json, as that of 0.2.0."""
-        with tempfile.TemporaryDirectory() as room:
-            older = pathlib.Path(room, "pbaudit")
-            older.write_text("#!/bin/sh\necho 'error: unexpected argument --json' >&2\nexit 3\n")
-            older.chmod(0o755)
-            with self.assertRaisesRegex(RuntimeError, "status 3 .it may be older than this package.: .*--json"):
-                _auditor._Program(str(older)).ask(_auditor.Question("prices", b"", b""))
+        """It doesn't know --json: that of 0.2.0 for no command, and that of 0.3.0 not for margins, of which it gives the table."""
+        usage = "echo \"error: unexpected argument '--json' found\" >&2; exit 3"
+        of_margins = f'case "$*" in margins*--json) {usage};; margins*) echo pb-margins,1;; *) echo \'{json.dumps(OBJECT)}\';; esac'
+        told = "status 3 .it may be older than this package.: .*--json"
+        for script, older_for, newer_for in ((usage, ("prices", "margins", "group_margins"), ()),
+                                             (of_margins, ("margins", "group_margins"), ("prices",))):
+            with tempfile.TemporaryDirectory() as room:
+                program = _auditor._Program(str(program_of(room, script)))
+                for command in older_for:
+                    with self.subTest(script=script, command=command), self.assertRaisesRegex(RuntimeError, told):
+                        program.ask(_auditor.Question(command, b"", b""))
+                for command in newer_for:
+                    self.assertEqual(program.ask(_auditor.Question(command, b"", b"")).found, OBJECT)
+
+    def test_what_is_read_from_what_is_printed(self):
+        """Nothing of what the program prints; and notes and hints of what it tells on standard error, but an election's notes,
+        which are those of its object."""
+        refusal = objects.refusal_of("certificate", 24, "UnknownVoter", 5)
+        told = ("election: note: x", "certificate:6: there is no voter '7'")
+        for found, status, notes, sentences in ((OBJECT, 0, ("note: x",), None), (refusal, 2, ("note: x",), told[1:])):
+            for printed in ("failed C3", "election: note: y", json.dumps(dict(OBJECT, answer="no")), ""):
+                script = (f"case \"$*\" in *--json) echo '{json.dumps(found)}';; *) echo '{printed}';; esac\n"
+                          + "".join(f'echo "{each}" >&2\n' for each in told[:1 + status // 2]) + f"exit {status}")
+                with self.subTest(found=found, printed=printed), tempfile.TemporaryDirectory() as room:
+                    report = _auditor._Program(str(program_of(room, script))).ask(_auditor.Question("prices", b"", b"\n" * 9))
+                    self.assertEqual((report.status, report.found, report.notes), (status, found, notes))
+                    self.assertEqual(report.hint and report.hint.sentences, sentences)
+                    self.assertEqual(report.text, f"{printed}\n".encode())
 
     def test_a_library_that_runs_out_of_memory_or_is_older(self):
         library = object.__new__(_auditor._Library)
@@ -124,8 +152,11 @@ class Answers(unittest.TestCase):
         """Whose object isn't one of this version, or says another thing than the status: no answer, and no fault of a file."""
         beside = b'{"hint":null,"notes":[],"refusal":null}\n'
         other, wrong = dict(OBJECT, version=2), dict(OBJECT, answer="no")
-        for data in (beside + json.dumps(other).encode() + b"\n", beside + json.dumps(wrong).encode() + b"\n", b"{}\n{}\n",
-                     b"supported priceable\n", b"[]\n", b""):
+        # That of 0.3.0 has no object of margins, but the table, which begins so.
+        tables = [(command, beside + table) for command, table in (
+            ("margins", b"pb-margins,1\ngrains_per_unit,1000000\n"), ("group_margins", b"pb-groups,1\ngrains_per_unit,1000000\n"))]
+        for command, data in (("read", beside + json.dumps(other).encode() + b"\n"), ("read", beside + json.dumps(wrong).encode() + b"\n"),
+                              ("read", b"{}\n{}\n"), ("read", b"supported priceable\n"), ("read", b"[]\n"), ("read", b""), *tables):
             def answered(*words, data=data):
                 *_, out, room, needed = words
                 needed._obj.value, out.raw = len(data), data.ljust(room, b"\0")
@@ -133,7 +164,7 @@ class Answers(unittest.TestCase):
             library = object.__new__(_auditor._Library)
             library._report = answered
             with self.subTest(data=data), self.assertRaisesRegex(RuntimeError, "^the library is of another version than "):
-                library.ask(_auditor.Question("read", b""))
+                library.ask(_auditor.Question(command, b""))
 
     def test_library_is_asked_once(self):
         """Answers of tidy and margins are about as long as the files."""
@@ -143,7 +174,7 @@ class Answers(unittest.TestCase):
         def answered(question, *words):
             *_, out, room, needed = words
             asked.append(room)
-            answer = beside + (b"" if question > 5 else json.dumps(OBJECT).encode() + b"\n") + text
+            answer = beside + (b"" if question == 7 else json.dumps(OBJECT).encode() + b"\n") + text
             needed._obj.value = len(answer)
             if room >= len(answer):
                 out.raw = answer.ljust(room, b"\0")
@@ -152,12 +183,12 @@ class Answers(unittest.TestCase):
         library._report = answered
         long, short = bytes(100_000), b""
         for times, *files in ((1, "tidy", short, long), (2, "tidy", long, short), (1, "margins", long, short),
-                              (2, "read", long)):
+                              (1, "group_margins", long), (2, "explain_groups", long), (2, "read", long)):
             asked.clear()
             with self.subTest(command=files[0]):
                 report = library.ask(_auditor.Question(*files))
                 self.assertEqual((report.status, report.text, report.notes), (0, text, ("note: x",)))
-                self.assertEqual((report.found, report.hint), ({} if files[0] in TABLES else OBJECT, None))
+                self.assertEqual((report.found, report.hint), ({} if files[0] == "tidy" else OBJECT, None))
                 self.assertEqual(len(asked), times)
 
     def test_program_that_ends_otherwise_is_an_error(self):
@@ -416,22 +447,28 @@ class Audits(unittest.TestCase):
         self.assertEqual(Refusal(found, "a.pb", hint).sentences(), [*sentences])
 
     def test_an_answer_that_is_none(self):
-        """A line that isn't an object, one of another version of these, and one that doesn't go with its status."""
+        """A line that isn't an object, one of another version of these, one that doesn't go with its status, and one that lacks
+        what each has, or has another thing there."""
         yes, no = json.dumps(OBJECT), json.dumps({**OBJECT, "answer": "no"})
+        refusal, election = objects.refusal_of("certificate", 24, "UnknownVoter", 5), {**OBJECT, "kind": "election"}
+        lacking = [(0, {"answer": "yes", "version": 1}), (0, election), *((0, {**election, "election": each}) for each in ({}, None)),
+                   *((2, {key: each for key, each in refusal.items() if key != name}) for name in ("kind", "input", "record")),
+                   (2, {**refusal, "input": "violation"}), (2, {**refusal, "input": []})]
         for status, line in ((1, yes), (2, yes), (0, no), (0, ""), (0, "supported priceable"), (0, f"x {yes}"), (0, "{}"),
-                             (0, "[]"), (0, yes + yes), (0, json.dumps({**OBJECT, "version": 2})), (1, "failed C3 project b")):
+                             (0, "[]"), (0, yes + yes), (0, json.dumps({**OBJECT, "version": 2})), (1, "failed C3 project b"),
+                             *((status, json.dumps(found)) for status, found in lacking)):
             program = _auditor._Program("pbaudit")
             with self.subTest(line=line), mock.patch.object(program, "_answer", lambda *_: (status, f"{line}\n".encode(), b"")):
                 with self.assertRaisesRegex(RuntimeError, "^pbaudit answers "):
                     program.ask(_auditor.Question("prices", b"", b""))
 
-    def test_a_table_that_is_refused_alone(self):
+    def test_a_text_that_is_refused_alone(self):
         """A program that refuses a file for one question and not for another."""
         program = _auditor._Program("pbaudit")
-        answers = {"margins": (2, b"refused\n", b""), "prices": (0, json.dumps(OBJECT).encode(), b"")}
+        answers = {"tidy": (2, b"refused\n", b""), "prices": (0, json.dumps(OBJECT).encode(), b"")}
         with mock.patch.object(program, "_answer", lambda question, *_: answers[question.command]):
-            with self.assertRaisesRegex(RuntimeError, "^pbaudit refuses a file for margins, and none for prices$"):
-                program.ask(_auditor.Question("margins", b"", b""))
+            with self.assertRaisesRegex(RuntimeError, "^pbaudit refuses a file for tidy, and none for prices$"):
+                program.ask(_auditor.Question("tidy", b"", b""))
 
     def test_bytes_that_look_like_a_path(self):
         prices = EXAMPLES / "sample.prices.csv"

@@ -1,4 +1,6 @@
 """The package as its users have it: types, help, the time of an import, and notebooks."""
+import ast
+import collections
 import dataclasses
 import doctest
 import html
@@ -64,8 +66,110 @@ class Types(unittest.TestCase):
         self.assertRegex(lines[4], r"^refused election 2 NoMeta record 1 election 1 ")
 
 
+class TakenApart:
+    """Where a text is split, searched, cut or gone through: one that is called as texts that are printed are, or in a module that
+    has their bytes one of any name."""
+
+    # What texts are called, and streams, also as words of a name; and what one is called that is gone through letter by letter.
+    TEXTS = "text|printed|line|told|data|stdout|stderr|output|page|html|answer|reply|note|sentence|message"
+    NAMES = re.compile(rf"(?<![^\W_])(?:{TEXTS}|lines|notes|sentences|first|rest)(?![^\W_])")
+    GONE_THROUGH = re.compile(rf"(?<![^\W_])(?:{TEXTS})(?:\(\))?$")
+    # Methods that take one apart, of a text or with it; and other calls that do, of which some are functions.
+    METHODS = {"split", "rsplit", "partition", "rpartition", "splitlines", "find", "rfind", "index", "rindex", "startswith", "endswith",
+               "removeprefix", "removesuffix", "strip", "lstrip", "rstrip", "replace", "translate"}  # fmt: skip
+    READERS = {"records", "reader", "DictReader", "StringIO", "BytesIO", "match", "fullmatch", "search", "findall", "finditer", "split",
+               "sub", "subn"}  # fmt: skip
+
+    def __init__(self, source, of_any_name=False):
+        self.of_any_name = of_any_name
+        self.found = [ast.unparse(each) for node in ast.walk(ast.parse(source)) for each in self.parts(node)]
+
+    def is_text(self, node, of_any_name=False):
+        return not isinstance(node, ast.Constant) and (of_any_name or bool(self.NAMES.search(ast.unparse(node))))
+
+    def parts(self, node):
+        """What of a node takes a text apart."""
+        if isinstance(node, ast.Call):
+            yield from self.calls(node)
+        if isinstance(node, ast.Subscript) and self.is_cut(node):
+            yield node
+        if isinstance(node, (ast.For, ast.comprehension)) and self.GONE_THROUGH.search(ast.unparse(node.iter)):
+            yield node.iter
+        if isinstance(node, ast.Compare) and isinstance(node.ops[-1], (ast.In, ast.NotIn)) and self.is_text(node.comparators[-1]):
+            yield node
+
+    def calls(self, node):
+        is_method = isinstance(node.func, ast.Attribute)
+        name = node.func.attr if is_method else getattr(node.func, "id", "")
+        if is_method and name in self.METHODS and self.is_text(node.func.value, self.of_any_name):
+            yield node.func
+        elif name in self.READERS or is_method and name in self.METHODS:
+            if any(self.is_text(each, self.of_any_name) for each in node.args):
+                yield node
+
+    def is_cut(self, node):
+        """Whether a part is taken by its place. A name as an index may be that of a key."""
+        if isinstance(node.slice, ast.Slice):
+            return self.is_text(node.value, self.of_any_name)
+        return bool(re.fullmatch(r"-?\d+", ast.unparse(node.slice))) and self.is_text(node.value)
+
+
 class Answers(unittest.TestCase):
     """What the auditor answers is read as an object, and nothing is taken out of what it prints."""
+
+    # Modules whose texts are those of files, of cells and of amounts: they are given no answer.
+    OF_FILES = {"records.py", "election_files.py", "writing.py", "rounding.py"}
+    # Modules that have the bytes which the library and the program give.
+    OF_BYTES = {"_auditor.py"}
+    # What is taken apart nevertheless, once each, and why.
+    ALLOWED = {
+        "_auditor.py: data.partition": "the parts of a report of the library, whose first line is read as JSON",
+        "_auditor.py: rest.partition": "the same, whose second line is read as JSON too",
+        "_auditor.py: told.decode('utf-8', 'replace').split": "notes and a hint: the program has them on standard error alone",
+        "_auditor.py: line.startswith": "which of these are notes",
+        "_auditor.py: note[len(name):]": "a note, without the name that the program puts in front of what it tells there",
+        "_auditor.py: line not in notes": "which of these are sentences of a hint",
+        "_auditor.py: self._answer(question)[1]": "what is printed, which is handed on",
+        "_auditor.py: os.sep in first": "whether the program is named by a path",
+        "_auditor.py: _QUESTIONS.index": "the number of a question",
+        "_auditor.py: done.stderr.decode('utf-8', 'replace').strip": "why the program failed, which is handed on",
+        "groups.py: asked.text().decode('utf-8').rstrip": "the end of the last line, which a string of it has not",
+        "__main__.py: report.text.rstrip": "the end of the last line, which is printed again",
+        "__main__.py: text.decode('utf-8', 'surrogateescape').removesuffix": "the end of the last line, which is printed again",
+        "audit_commands.py: report.text.rstrip": "the end of the last line, which is printed again",
+        "__main__.py: lines.split": "lines of this package's own, each of which is shown",
+        "_places.py: re.match('v(\\\\d+)\\\\.', told)": "Node's version",
+        "_places.py: told.strip": "Node's version",
+        "_places.py: done.stdout.decode().rstrip": "the path that a script of the repository prints",
+        "auditing.py: b'\\n' in data": "whether bytes are meant as a path",
+        "auditing.py: b'\\x00' in data": "whether bytes are meant as a path",
+        "auditing.py: data.lower().endswith": "whether bytes are meant as a path",
+        "auditing.py: 'election' not in data": "which files are given",
+        "auditing.py: refusal.input in data": "which files are given",
+        "auditing.py: (*(data[name] for name in certificates), None, None)[:2]": "which files are given",
+        "auditing.py: hint.sentences[:1]": "sentences of a hint, of which the first has its line",
+        "auditing.py: hint.sentences[1:]": "sentences of a hint, of which the first has its line",
+        "amounts.py: f'{int(rest):06}'.rstrip": "digits of an amount",
+        "sentences.py: f'{int(rest * MILLION):06}'.rstrip": "digits of an amount",
+        "__main__.py: message.rstrip": "the end of the last line of help, which is printed again",
+        "finding/folders.py: records(data, b';')": "an election's file",
+        "finding/refutations.py: answer.sums[groups:groups + len(problem.funded)]": "numbers by which a linear programme is solved",
+        "finding/refutations.py: answer.rows[:len(seen)]": "numbers by which a linear programme is solved",
+        "kept.py: data": "the names of a dictionary",
+        "readers_page.py: BROUGHT.sub(b'', page)": "the page for browsers, into which files are put",
+        "shown.py: text": "letters of a name, which get a visible form",
+        "spreadsheets.py: _AHEAD.sub(\"\\\\1'\", text)": "a cell of a table",
+    }  # fmt: skip
+    # Each of these would take an answer apart.
+    PLANTED = ("text.split('\\n')", "report.text.partition(b'\\n')[0]", "asked.text().decode('utf-8').splitlines()[0]", "printed[:12]",
+               "[row for row in records(text, b',')]", "list(csv.reader(io.StringIO(text)))", "done.stdout.find(b'note')", "line[len('failed '):]",
+               "re.match('read', line)", "'note: ' in told", "page.index('<title>')", "pattern.findall(self.page(question))",
+               "line.removeprefix('refused ')", "_auditor.ask(question).text.startswith(b'failed')",
+               "note[len(name):]", "rest.partition(b'\\n')", "re.split('\\n', text)", "re.sub('^failed ', '', text)", "pattern.split(text)",
+               "text[0]", "printed[-1]", "str.splitlines(text)", "answer.split()", "reply.split()", "first.startswith('failed')",
+               "for line in text: pass", "[line for line in report.text]", "first_line.split()", "asked.text()[0]")  # fmt: skip
+    # So would these in a module that has the bytes.
+    PLANTED_THERE = ("found.split(b'\\n')", "some[len(b'note: '):]", "bytes.splitlines(some)", "re.sub(b'^failed ', b'', some)", "split(some)")
 
     # What patterns are for, by the modules that have some.
     PATTERNS = {"records.py": "the records of files", "__main__.py": "a word of a command", "_places.py": "Node's version",
@@ -81,6 +185,32 @@ class Answers(unittest.TestCase):
         found = {path.name for path in PACKAGE.rglob("*.py")
                  if re.search(r"^\s*(import|from) re\b", path.read_text(encoding="utf-8"), re.MULTILINE)}
         self.assertEqual(found, {*self.PATTERNS})
+
+    def test_no_text_of_an_answer_is_taken_apart(self):
+        """But what is listed, each of it once."""
+        places = [(path.relative_to(PACKAGE).as_posix(), path) for path in PACKAGE.rglob("*.py")]
+        found = [f"{name}: {part}" for name, path in places if name not in self.OF_FILES
+                 for part in TakenApart(path.read_text(encoding="utf-8"), name in self.OF_BYTES).found]
+        self.assertEqual(collections.Counter(found), collections.Counter([*self.ALLOWED]))
+
+    def test_what_would_take_an_answer_apart_is_seen(self):
+        for planted in self.PLANTED:
+            with self.subTest(planted=planted):
+                self.assertNotEqual(TakenApart(planted).found, [])
+        for planted in self.PLANTED_THERE:
+            with self.subTest(planted=planted):
+                self.assertNotEqual(TakenApart(planted, of_any_name=True).found, [])
+
+    def test_modules_of_files_are_given_no_answer(self):
+        for name in self.OF_FILES:
+            asks = re.search(r"\b(ask|answered|Report|auditor\(|auditing)\b", (PACKAGE / name).read_text(encoding="utf-8"))
+            self.assertIsNone(asks, name)
+
+    def test_what_is_read_is_told(self):
+        """Of what is printed, as what is listed has it."""
+        for file in (PACKAGE / "_auditor.py", *(EXAMPLES.parent / "docs" / name for name in ("DESIGN.md", "DECISIONS.md"))):
+            text = " ".join(file.read_text(encoding="utf-8").split())
+            self.assertIn("but notes and hints, which the program tells on standard error alone", text, file)
 
     def test_nothing_is_taken_out_of_what_is_printed(self):
         gone = re.compile("|".join(self.GONE))

@@ -13,7 +13,7 @@ import time
 import unittest
 
 import pbaudit
-from pbaudit import __main__ as command_line
+from pbaudit import __main__ as command_line, _places
 
 REPOSITORY = pathlib.Path(__file__).resolve().parents[2]
 EXAMPLES = REPOSITORY / "examples"
@@ -290,7 +290,7 @@ class Commands(unittest.TestCase):
     def test_an_auditor_that_cannot_be_used_is_a_fault(self):
         """None, a library that can't be loaded, and a program that doesn't know the command."""
         for name, data, told in (("bin/none", b"", b"install this package again"), ("bin/pbaudit", b"#!/bin/sh\nexit 3\n", b"3"),
-                                 ("pbaudit/libpbaudit.so.1", b"junk", b"can't be used")):
+                                 (f"pbaudit/{_places.LIBRARY}", b"junk", b"can't be used")):
             with self.subTest(name=name), tempfile.TemporaryDirectory() as room:
                 out, package = pathlib.Path(room, "page.html"), pathlib.Path(pbaudit.__file__).parent
                 shutil.copytree(package, f"{room}/pbaudit", ignore=shutil.ignore_patterns("*.so*", "__pycache__"))

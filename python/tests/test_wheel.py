@@ -25,6 +25,7 @@ import wheel_writer  # noqa: E402
 OLD, NEW = b"old\0GLIBC_2.2.5\0GLIBC_2.14\0", b"new\0GLIBC_2.28\0GLIBC_2.4\0"
 OLD_PROGRAM, NEW_PROGRAM = b"old program\0GLIBC_2.2.5\0", b"new program\0GLIBC_2.3\0"
 ENTRY = TOP / "python" / "backend" / "entry.py"
+LIBRARY = "libpbaudit.so.2"
 STATES_VERSION = "crates/pb_words/src/version.rt"
 
 
@@ -44,7 +45,7 @@ class Wheels(unittest.TestCase):
     def setUp(self):
         self.top = pathlib.Path(tempfile.mkdtemp())
         self.addCleanup(shutil.rmtree, self.top)
-        self.library, self.program = self.top / "lib/libpbaudit.so.1", self.top / "crates/pbaudit/out/pbaudit"
+        self.library, self.program = self.top / "lib" / LIBRARY, self.top / "crates/pbaudit/out/pbaudit"
         self.built = []
         for name in ("crates/pb_money/src/lib.rt", "crates/pb_money/specs/Lib.antt", "crates/pb_money/proofs/Lib.antt",
                      "crates.txt", "HANDLES", "include/pbaudit.h", "pbaudit-library", "pbaudit"):
@@ -75,7 +76,7 @@ class Wheels(unittest.TestCase):
         """Makes a release of the sources as they are."""
         release = self.top / "release"
         release.mkdir(exist_ok=True)
-        files = {"libpbaudit.so.1": given.get("library", NEW), "pbaudit": given.get("program", NEW_PROGRAM)}
+        files = {LIBRARY: given.get("library", NEW), "pbaudit": given.get("program", NEW_PROGRAM)}
         for name, data in files.items():
             (release / name).write_bytes(data)
         sums = [f"{part} {RUN([self.top / 'packaging' / 'sources', part], capture_output=True, text=True, check=True).stdout}"
@@ -105,7 +106,7 @@ class Wheels(unittest.TestCase):
             for name in (program, command):
                 self.assertEqual(wheel.getinfo(name).external_attr >> 16, 0o100755)
             self.assertEqual(wheel.read(command), ENTRY.read_bytes())
-            return wheel.read("pbaudit/libpbaudit.so.1"), wheel.read(program)
+            return wheel.read(f"pbaudit/{LIBRARY}"), wheel.read(program)
 
     def test_what_is_current_is_taken(self):
         self.release()
@@ -168,7 +169,7 @@ class Wheels(unittest.TestCase):
             with self.subTest(missing=name):
                 self.setUp()
                 getattr(self, name).unlink()
-                with self.assertRaisesRegex(SystemExit, "^pbaudit: (libpbaudit.so.1|pbaudit) is not built, "):
+                with self.assertRaisesRegex(SystemExit, f"^pbaudit: ({LIBRARY}|pbaudit) is not built, "):
                     self.in_the_wheel(rt=None)
 
     def test_on_another_machine_nothing_is_installed(self):

@@ -5,7 +5,7 @@
    Each file and each answer ends where a page ends that nothing may touch. The same call has to say the same with just enough
    room, and write nothing with less or where it runs out of memory; what explains has to begin with the line that is explained,
    both have to be what each is, what is said of groups goes with the note, tidied prices stay as they are, a report ends with the
-   answer's text, and each refusal has a hint or none, but ends.
+   answer's text, a file that isn't refused is told to be what it was taken for, and each refusal has a hint or none, but ends.
 
    The library has no counters for libFuzzer, so the kinds of its answers are counted in their place.
 */
@@ -183,6 +183,28 @@ static void demand_tidied(Answer tidied) {
     let_go(again.text);
 }
 
+static uint8_t kind_of(Bytes file) {
+    uint8_t kind = 99;
+    demand(pbaudit_kind(file.at, file.length, &kind) == 0 && kind <= PBAUDIT_KIND_REFUTATION, "a kind that there isn't");
+    return kind;
+}
+
+/* A file that isn't refused is told to be what it was taken for. A note is none of these answers, and an explanation and a page take
+   a certificate of any kind. */
+static void demand_kinds(char command, Answer said) {
+    uint8_t election = kind_of(files[ELECTION]), certificate = kind_of(files[CERTIFICATE]), outcome = kind_of(files[OUTCOME]);
+    if (said.status == 2 || command == 'n')
+        return;
+    demand(election == PBAUDIT_KIND_ELECTION, "an election that isn't told to be one");
+    if (question_of(command) == PBAUDIT_READ && command != 'g')
+        return;
+    demand(command == 't' || !has_outcome || outcome == PBAUDIT_KIND_OUTCOME, "an outcome file that isn't told to be one");
+    if (command == 'v' || command == 'u')
+        demand(certificate == (command == 'v' ? PBAUDIT_KIND_VIOLATION : PBAUDIT_KIND_REFUTATION), "another certificate");
+    else
+        demand(certificate == PBAUDIT_KIND_PRICES || command == 'e' || command == 'g', "prices that aren't told to be some");
+}
+
 static void hint(char command, pbaudit_facts refused) {
     static const uint8_t kinds[] = {9, 0, 1, 2, 2, 3}, inputs[] = {0, ELECTION, OUTCOME, CERTIFICATE, CERTIFICATE, VIOLATION};
     size_t needed;
@@ -228,6 +250,7 @@ int LLVMFuzzerTestOneInput(const uint8_t *data, size_t size) {
     count(command, said);
     if (starved)
         starve(command, said, starved);
+    demand_kinds(command, said);
     if (said.status == 2)
         hint(command, told);
     if (command != 'n' && command != 'g')

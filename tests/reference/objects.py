@@ -13,8 +13,10 @@ from .records import Refused
 
 VERSION = 1
 MILLION = 10**6
+# What is asked where --groups stands in the certificate's place.
+ON_GROUPS = {"explain": "groups", "margins": "group_margins"}
 STATUSES = {"yes": YES, "no": NO, "refused": REFUSED}
-WITH_JSON = ("read", "groups", "prices", "violation", "refutation", "both", "explain")
+WITH_JSON = ("read", "groups", "prices", "violation", "refutation", "both", "explain", "margins")
 
 
 def an_object(kind, answer, **keys):
@@ -251,6 +253,50 @@ def of_groups(election, funded, by_cost):
     )
 
 
+def of_group_margins(election, funded, by_cost):
+    """The object about one group for each unfunded project that somebody approves."""
+    return an_object(
+        "group_margins",
+        "yes",
+        election=of_election(election),
+        groups=[of_group(election, each) for each in group_figures.of_all(election, funded, by_cost)],
+        measure="cost" if by_cost else "count",
+        outcome=of_outcome(election, funded),
+    )
+
+
+def of_margins(election, funded, prices):
+    """The object about what each project costs, is paid and could be offered, in grains."""
+    claim = conditions.Claim(election, funded, prices)
+    grains_per_unit = MILLION * prices.denominator
+
+    def figures(project):
+        sums = {
+            "cost": claim.cost(project),
+            "left": claim.left_of_supporters(project),
+            "offer": claim.offer_of_supporters(project),
+            "paid": claim.paid(project),
+        }
+        grains = {name: amount * grains_per_unit for name, amount in sums.items()}
+        assert all(amount.denominator == 1 for amount in grains.values())
+        return {
+            "funded": project in funded,
+            "number": project,
+            "project": election.id(project).decode(),
+            "supporters": len(election.supporters(project)),
+            **{name: str(amount.numerator) for name, amount in grains.items()},
+        }
+
+    return an_object(
+        "margins",
+        "yes",
+        election=of_election(election),
+        grains_per_unit=grains_per_unit,
+        outcome=of_outcome(election, funded),
+        projects=[figures(project) for project in election.projects],
+    )
+
+
 def of_group(election, group):
     """A group for a project, with its share of the limit and what is missing of what it has to come to."""
     def over_voters(numerator):
@@ -281,6 +327,13 @@ class Objects:
 
     def groups(self, election):
         return of_groups(*self.audited(election), self.by_cost)
+
+    def margins(self, election, certificate):
+        election, funded = self.audited(election)
+        return of_margins(election, funded, take("certificate", read_prices, certificate, election))
+
+    def group_margins(self, election):
+        return of_group_margins(*self.audited(election), self.by_cost)
 
     def prices(self, election, certificate):
         election, funded = self.audited(election)
@@ -378,8 +431,8 @@ def answers(words):
 def answer(words):
     """The object and the status for the words of a command line, without the word --json."""
     command, paths, mode, outcome, others = words_apart(words)
-    if command == "explain" and "--groups" in mode:
-        command = "groups"
+    if "--groups" in mode:
+        command = ON_GROUPS[command]
     try:
         value = getattr(Objects(mode, outcome, others.get("--satisfaction", "cost")), command)(*paths)
     except RefusedInput as refused:

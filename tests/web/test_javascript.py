@@ -54,7 +54,11 @@ console.log(JSON.stringify({
   text: a.prices(sample.toString(), read('sample.prices.csv').toString()),
   refused: a.violation(district, unknown),
   violation: a.violation(district, read('district.violation.csv'), { outcome }),
-  both: a.both(sample, read('sample.prices.csv'), read('sample.wrong.violation.csv')),
+  both: [
+    a.both(sample, read('sample.prices.csv'), read('sample.wrong.violation.csv')),
+    a.both(read('school.pb'), read('school.prices.csv'), read('school.violation.csv'), { stable: true, exhaustive: false }),
+    a.both(read('school.pb'), read('school.prices.csv'), read('school.violation.csv')),
+  ],
   bothRefused: a.both(sample, read('sample.prices.csv'), read('sample.prices.csv')),
   explain: a.explain(district, read('district.prices.csv')),
   margins: a.margins(sample, read('sample.prices.csv')),
@@ -216,8 +220,6 @@ def test_verdicts_have_facts(told):
                           "notes": [], "text": "failed S5 project 102\n"}  # fmt: skip
     assert told["text"]["form"] == "priceable"
     assert (told["violation"]["answer"], told["violation"]["saysOfGroups"]) == ("yes", None)
-    assert (told["both"]["status"], told["both"]["prices"]["answer"]) == (1, "yes")
-    assert told["both"]["violation"]["condition"] in ("V1", "V2", "V3", "V4")
     assert told["read"] == {"status": 0, "answer": "read", "voters": 3, "projects": 3, "funded": 2, "notes": [],
                             "remarks": [], "text": "read 3 voters 3 projects 2 funded\n"}  # fmt: skip
 
@@ -246,19 +248,45 @@ console.log(JSON.stringify([yes.map(({ answer }) => answer), ...[yes, others].ma
     assert json.loads(ran.stdout) == [["yes"] * 4, [wanted] * 4, [None] * 6]
 
 
+def test_both_has_two_verdicts(told):
+    """Each with its own line. In sample.pb three voters have 4 each, which is more than the limit, 10, and pay for what is funded; `c` costs
+    9, and its supporter has 2 left. Voter 1, who is the group, doesn't want `c`. In school.pb 100 voters have 10 each, which is less than the
+    limit; ten pay for the bench, and nobody can offer more than 10 for the school, of 90,000. The group are the other 90, whose share is what
+    the school costs, and who got nothing. What remains of the limit is enough for the school."""
+    violation = {"status": 0, "answer": "yes", "saysOfGroups": None, "notes": [], "text": "violation\n"}
+    first, little, unexhausted = told["both"]
+    assert first == {
+        "status": 1, "answer": "no", "text": "supported priceable\nfailed V2 voter 1 project c\n",
+        "prices": {"status": 0, "answer": "yes", "form": "priceable", "saysOfGroups": "strict", "notes": [], "text": "supported priceable\n"},
+        "violation": {"status": 1, "answer": "no", "condition": "V2", "voter": 1, "project": "c", "saysOfGroups": None, "notes": [],
+                      "text": "failed V2 voter 1 project c\n"},
+    }  # fmt: skip
+    assert little == {
+        "status": 0, "answer": "yes", "text": "supported stable\nviolation\n", "violation": violation,
+        "prices": {"status": 0, "answer": "yes", "form": "stable", "saysOfGroups": "little", "text": "supported stable\n",
+                   "notes": ["note: the voter budgets together are less than the limit, so this yes says little"]},
+    }  # fmt: skip
+    assert unexhausted == {
+        "status": 1, "answer": "no", "text": "failed Exhaustive project school\nviolation\n", "violation": violation,
+        "prices": {"status": 1, "answer": "no", "condition": "Exhaustive", "project": "school", "saysOfGroups": None, "notes": [],
+                   "text": "failed Exhaustive project school\n"},
+    }  # fmt: skip
+
+
 def test_notes_on_columns_that_are_not_used(installed):
-    """As the program notes them; the files are counted as always."""
+    """As the program notes them, which doesn't with `both`; the files are counted as always."""
     (installed / "columns.mjs").write_text(r"""
 import { readFileSync } from 'node:fs';
 import { auditor } from 'pbaudit';
 const file = name => readFileSync(`${process.argv[2]}/${name}`).toString(), a = await auditor();
 const pb = file('sample.pb').replace('voter_id;vote', 'voter_id;vote;weight;points').replace(/^(\d;[a-c,]+)$/gm, '$1;1;2');
 const answers = [a.read(pb), a.prices(pb, file('sample.prices.csv')), a.violation(pb, file('sample.wrong.violation.csv'))];
-console.log(JSON.stringify(answers.map(({ notes }) => notes)));
+const both = a.both(pb, file('sample.prices.csv'), file('sample.wrong.violation.csv'));
+console.log(JSON.stringify([...answers, both.prices, both.violation].map(({ notes }) => notes)));
 """)
     ran = subprocess.run(["node", "columns.mjs", EXAMPLES], cwd=installed, stdout=subprocess.PIPE, check=True)
     notes = [f"note: column {name} of VOTES is not used" for name in ("weight", "points")]
-    assert json.loads(ran.stdout) == [notes] * 3
+    assert json.loads(ran.stdout) == [notes, notes, notes, [], []]
 
 
 def test_groups_that_fall_short(told):

@@ -1,5 +1,6 @@
 """The module of the page, run by Node, beside the program: the same cases, status and bytes; and what the scripts of the page are made
 of, as tsc, eslint, esbuild and Node's own runner see them."""
+import base64
 import collections
 import os
 import re
@@ -10,6 +11,7 @@ import pytest
 
 import by_node
 import cases
+import file_kinds
 import saying
 import tables
 import variants
@@ -57,6 +59,11 @@ def test_by_chance(run, node, seed, by_chance, room):
             assert told.get("notes") == by_node.told_notes(ran.stderr)
 
 
+@pytest.mark.parametrize("file, kind", file_kinds.EACH)
+def test_kind(node, file, kind):
+    assert node.ask({"kind": base64.b64encode(file).decode()}) == {"kind": kind or "unknown"}
+
+
 @pytest.mark.parametrize("name", ["answers.txt", "groups.txt", "hints.txt", "refutations.txt"])
 def test_what_is_said(node, room, name):
     """Of both two lines are said, unless a file is refused. The notes on an election that is read are its other lines."""
@@ -66,6 +73,7 @@ def test_what_is_said(node, room, name):
         cases.write_files(room, {"missing": b"", **files})
         told, lines = node.ask(by_node.call_of(words, room)), row.printed[:2 if words[0] == "both" else 1]
         assert told["says"] == [by_node.said(line) for line in lines], (row.group, words)
+        assert told["lines"] == lines, (row.group, words)
         if words[0] == "read":
             assert told["notes"] == row.printed[1:], (row.group, words)
 
@@ -126,7 +134,78 @@ def test_style(room):
 # A pattern in a script, and words of printed lines, of tables and of the library's pages.
 PATTERN = re.compile(r"(?:[=(,:\[!&|?;>]|return) */(?![/*])((?:[^/\\\n\[]|\\.|\[(?:[^\]\\\n]|\\.)*\])+)/")
 OF_THE_PROGRAM = re.compile(r"failed|satisfied|priceable|supported|\^violation|refused|note:| voters| projects|says |<\w|class=")
-CALLED = {"pbaudit_report", "pbaudit_answer_page", "pbaudit_groups_page", "pbaudit_room"}
+CALLED = {"pbaudit_report", "pbaudit_answer_page", "pbaudit_groups_page", "pbaudit_kind", "pbaudit_room"}
+# What a text may be called that is an answer's, a printed page or a stream, or its bytes; and what makes such a text.
+TEXT = (r"\b(?:texts?|lines?|page|html|printed|answer|reply|told|said|shown|output|stdout|stderr|bytes|data|content|first|rest|head|notes?"
+        r"|sentences?|textContent|nodeValue|(?:inner|outer)(?:Text|HTML)|srcdoc)\b")  # fmt: skip
+IN_BRACKETS = r"\((?:[^()]|\((?:[^()]|\([^()]*\))*\))*\)"
+TEXT_OF_CALL = rf"\b(?:decoded?|String|toString|join|\w*[lL]ine(?:Of)?|textOf){IN_BRACKETS}"
+# How a text is split, searched or cut, whatever it is called but by the names of files and letters; and how lists and bytes are too.
+OF_TEXTS = (r"(?:split|substr(?:ing)?|match(?:All)?|search|startsWith|endsWith|charAt|charCodeAt|codePointAt|trim(?:Start|End)?"
+            r"|replace(?:All)?)\(")  # fmt: skip
+OF_LISTS = r"(?:indexOf|lastIndexOf|includes|slice|subarray|at)\("
+ANYTHING = r"\b(?!(?:name|webkitRelativePath|letter)\b)\w+|[])`'\"]"
+TAKEN_APART = re.compile(
+    rf"(?:{ANYTHING})[!?]?\s*\.{OF_TEXTS}|(?:{TEXT}|{TEXT_OF_CALL}|`)[!?]?\s*\.{OF_LISTS}|{TEXT}[!?]?(?:\?\.)?\[(?:\d|at\b|\w+\.length)"
+    rf"|\.(?:exec|test)\(|\b(?:rowsOf|textOf)\({TEXT}|\bnew Records\(|\bDOMParser\b|\bcontentDocument\b")
+# Folders of modules whose texts are those of files, of names and of the page's own words: they are given no answer.
+OF_FILES = {"elections", "files", "finding", "sheets", "words"}
+# What is taken apart nevertheless, how often in the module, and why.
+ALLOWED = {
+    "auditor/replies.ts: bytes.indexOf(": (2, "where the lines of JSON of a report end"),
+    "auditor/replies.ts: bytes.subarray(": (3, "the lines of JSON, which are read as such, and what is behind them"),
+    "auditor/objects.ts: text.replace(": (1, "numbers in JSON that are too large for a number"),
+    "auditor/statuses.ts: .test(": (1, "what a browser says where it has no memory"),
+    "package/entries.ts: file.endsWith(": (1, "the name of a file"),
+    "package/handed.ts: .exec(": (1, "a language that a caller gives"),
+    "package/handed.ts: .test(": (2, "a text that a caller gives, and what another value is called"),
+    "package/library.ts: bytes.subarray(": (1, "a file that is too long"),
+    "package/machine.ts: line.indexOf(": (2, "the words of Node's own command"),
+    "package/machine.ts: line.subarray(": (1, "the words of Node's own command"),
+    "package/module.ts: bytes[at": (1, "the bytes of the module"),
+    "package/module.ts: text.charCodeAt(": (1, "the bytes of the module"),
+    "page/answer.ts: contentDocument": (3, "the size and the styles of a page that is shown"),
+    "page/answer.ts: page.replaceAll(": (1, "the styles of a page that is shown"),
+    "page/election.ts: ).replace(": (1, "a text of an election's file"),
+    "page/election.ts: text.trim(": (1, "a text of an election's file"),
+    "page/elements.ts: ).trim(": (1, "the bytes of the module"),
+    "page/holding.ts: page.endsWith(": (1, "a page into which the files are put, ahead of its end"),
+    "page/holding.ts: page.slice(": (1, "a page into which the files are put, ahead of its end"),
+    "page/holding.ts: text.replace(": (1, "a text that is escaped"),
+    "page/holding.ts: text.slice(": (2, "the first letter of a word of the page's"),
+    "page/lists.ts: page.replace(": (1, "the page's own, which takes another file"),
+    "page/projects.ts: searched.trim(": (1, "what somebody searches for"),
+    "page/told.ts: textContent?.trim(": (1, "a sentence of the page's own"),
+    "page/tools.ts: textContent?.trim(": (1, "a sentence of the page's own"),
+    "worker/bytes.ts: bytes.subarray(": (1, "a line of a file"),
+    "worker/bytes.ts: bytes[at": (3, "the bytes of a file, and of its sum"),
+}
+PLANTED = [
+    'const [first] = text.split("\\n");', 'if (decoded(reply.text).indexOf("failed") === 0) return;', "text.subarray(0, text.indexOf(10))",
+    'if (page.includes("<h1>")) return;', "const rows = new Records(reply.text, COMMA);", "const found = LINE.exec(line);",
+    "if (FAILED.test(said.line)) return;", "const [, voter] = stdout.match(VOTER)!;", 'new DOMParser().parseFromString(page, "text/html")',
+    'frame.contentDocument.querySelector("td")', "new TextDecoder().decode(told.text).trim()", 'for (const row of rowsOf(text, ","))',
+    'const rest = printed.replace("failed ", "");', "return reply.text.slice(9);",
+    'decoded(calls.page(c, asked).bytes).indexOf("<title>")', 'text.replace(LINE, "")', "LINE.exec(decoded(bytes))", 'String(text).split("\n")',
+    'if (text[0] === "f") return;', "text[text.length - 1]", 'first.startsWith("failed")', "note.slice(6)", 'frame.innerText.split("\n")',
+    'innerHTML.indexOf("<td>")', 'place.srcdoc.split("<h1>")', 'text\n    .split(" ")', "lineOf(said).slice(7)", "`${told.text}`.slice(0, 6)",
+]  # fmt: skip
+
+
+def scripts_of(folders):
+    return {path.relative_to(WEB / "src").as_posix(): path.read_text(encoding="utf-8") for path in (WEB / "src").rglob("*.ts")
+            if path.parent.name not in folders}  # fmt: skip
+
+
+def test_no_text_of_an_answer_is_taken_apart():
+    """But what is listed."""
+    found = collections.Counter(f"{name}: {part}" for name, text in scripts_of(OF_FILES).items() for part in TAKEN_APART.findall(text))
+    assert found == {part: count for part, (count, _) in ALLOWED.items()}
+
+
+@pytest.mark.parametrize("line", PLANTED)
+def test_what_would_take_an_answer_apart_is_seen(line):
+    assert TAKEN_APART.search(line)
 
 
 def test_nothing_is_read_off_what_is_printed():

@@ -6,8 +6,8 @@ import test from "node:test";
 import { pageCall, reportCall } from "../src/auditor/commands.js";
 import { electionOf } from "../src/auditor/elections.js";
 import { objectIn } from "../src/auditor/objects.js";
-import { decoded, firstLine, halves, replyIn } from "../src/auditor/replies.js";
-import { saidBy } from "../src/auditor/says.js";
+import { decoded, replyIn } from "../src/auditor/replies.js";
+import { lineOf, saidBy } from "../src/auditor/says.js";
 import { headlineOf } from "../src/words/headlines.js";
 import type { Question } from "../src/auditor/commands.js";
 import type { ElectionObject, FailedObject, RefusalObject, VerdictObject } from "../src/auditor/objects.js";
@@ -65,6 +65,39 @@ test("a refusal, and an election that was read", () => {
   assert.deepEqual(read({ funded: null }), { says: "read", voters: 3, projects: 3 });
 });
 
+test("an object that says something else than one line, which no caller has, isn't taken for one", () => {
+  const table = { answer: "yes", election, outcome: { funded: 2, cost: "10000000" }, version: 1 };
+  const others = [
+    { ...table, kind: "margins", grains_per_unit: 1000000, projects: [] },
+    { ...table, kind: "group_margins", measure: "cost", groups: [] },
+    { answer: "yes", kind: "both", prices: prices(), version: 1, violation: verdict("violation", {}) },
+  ];
+  for (const other of others) assert.throws(() => saidBy(other as unknown as VerdictObject), TypeError);
+});
+
+test("the line of an answer, as docs/FORMATS.md has it", () => {
+  const line = (object: Parameters<typeof saidBy>[0]): string => lineOf(saidBy(object));
+  const failed = (voter: number | null, project: string | null): FailedObject => ({ name: "C1", voter, project });
+  assert.equal(line(prices()), "supported priceable");
+  assert.equal(line(prices(null, true)), "supported stable");
+  assert.equal(line(verdict("violation", {})), "violation");
+  for (const proves of ["unpriceable", "unpriceable cover", "unpriceable stable", "unpriceable stable cover"]) {
+    assert.equal(line(refutation(proves)), proves);
+  }
+  assert.equal(line(groups(null, null)), "satisfied ejr+ by count");
+  assert.equal(line(prices(failed(2, 'b "c" voter 3'))), 'failed C1 voter 2 project b "c" voter 3');
+  assert.equal(line(prices(failed(0, null))), "failed C1 voter 0");
+  assert.equal(line(prices(failed(null, "0"))), "failed C1 project 0");
+  assert.equal(line(prices(failed(null, null))), "failed C1");
+  const short = groups({ name: "EJR+", voter: null, project: "105" }, { voters: 7 });
+  assert.equal(line(short), "failed EJR+ by count voters 7 project 105");
+  assert.equal(line(refusal), "refused certificate 24 UnknownVoter record 4");
+  const read = (its: object): string => line({ kind: "election", answer: "yes", election: { ...election, ...its } });
+  assert.equal(read({}), "read 3 voters 3 projects 2 funded");
+  assert.equal(read({ funded: 0 }), "read 3 voters 3 projects 0 funded");
+  assert.equal(read({ funded: null }), "read 3 voters 3 projects no outcome");
+});
+
 test("the sentence on an answer", () => {
   const failed = { name: "U2", voter: null, project: null };
   const headline = (object: VerdictObject, isStable: boolean): string =>
@@ -90,20 +123,15 @@ test("a reply has two lines of JSON, and behind them the text as it is", () => {
   assert.deepEqual(reply.beside, { hint: null, notes: [NOTE], refusal: null });
   assert.deepEqual(reply.object, prices());
   assert.equal(decoded(reply.text), text);
-  assert.equal(firstLine(reply.text), "supported priceable");
 });
 
-test("a reply on a table has no object, also where a file is refused", () => {
+test("a reply on a canonical text has no object, also where a file is refused", () => {
   const hint = { line: 4, sentences: ["there is no voter '7'", "line 9: that is a row"] };
   const beside = JSON.stringify({ hint, notes: [], refusal }), line = "refused certificate 24 UnknownVoter record 4\n";
   const reply = replyIn(2, bytes(`${beside}\n${line}`), false);
   assert.deepEqual(reply.beside, { hint, notes: [], refusal });
   assert.equal(reply.object, undefined);
   assert.equal(decoded(reply.text), line);
-});
-
-test("a text is cut behind its first line", () => {
-  assert.deepEqual(halves("a\nb\nc\n"), ["a\n", "b\nc\n"]);
 });
 
 test("notes on an election, in the order of the program's, with all digits of what a file declares", () => {

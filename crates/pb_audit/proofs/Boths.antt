@@ -15,11 +15,14 @@ use Rattle.pb_price.specs.declared.Findings.{Findings}
 use Rattle.pb_price.specs.declared.Verdict.{Verdict}
 use Rattle.pb_reply.specs.Replies.{Reply, refused, with_input}
 use Rattle.pb_audit.specs.Answers.{price_reply, verdict_reply, violation_reply}
-use Rattle.pb_audit.specs.Both.{BothPromise, GroupAndDemand, ReadsBoth, StatesBoth, beside, both_object, both_on, both_reply, both_rules, joined, yes_where_both}
+use Rattle.pb_audit.specs.Both.{BothPromise, GroupAndDemand, ReadsBoth, StatesBoth, beside, both_object, both_on, both_reply, both_rules, joined}
+use Rattle.pb_report.specs.Found.{FindsPrices, yes_where_both}
+use Rattle.pb_report.specs.declared.prices.PricesFound.{PricesFound}
+use Rattle.pb_report.proofs.Told.{told_verdict}
 use Rattle.pb_reply.specs.Inputs.{InTurn, Stated, StatesElection, StatesPrices, StatesViolation}
 use Rattle.pb_input.specs.declared.InputRefusal.{InputRefusal}
 use Rattle.pb_reply.specs.Turns.{FileTurn, Turn}
-use Rattle.pb_audit.specs.Inside.Certificates.{AnswersCertificate, FindsPrices, Promised}
+use Rattle.pb_audit.specs.Inside.Certificates.{AnswersCertificate, Promised}
 use Rattle.pb_reply.specs.Inside.Taking.{Gives, GivesOutcome, IfTaken, or_refusal}
 use Rattle.pb_input.specs.declared.InputName.TheVariants as name
 use Rattle.pb_reply.specs.declared.unanswered.Unanswered.{Unanswered}
@@ -27,7 +30,6 @@ use Rattle.pb_reply.specs.declared.unanswered.Unanswered.TheVariants as unanswer
 use Rattle.pb_reply.specs.declared.status.Status.{Status}
 use Rattle.pb_reply.specs.declared.status.Status.TheVariants.{Yes}
 use Rattle.pb_audit.proofs.Audits.{answered, ended_at_election, ended_at_outcome}
-use Rattle.pb_audit.proofs.Explained.{told_verdict}
 use Rattle.pb_reply.proofs.Culprits.{denominator-low}
 use Rattle.pb_reply.proofs.Promises.{prices_promise, violation_promises}
 
@@ -73,19 +75,20 @@ abbrev prices_refused : (m : Mode) (e : Instance) (w : List Bool) (prices violat
 prices_refused m e w prices violation r states = record { c = Err r; given = states; out = refl }
 
 -- the prices are accepted, and the violation certificate is answered beside the verdict on them
-abbrev both_answered : (m : Mode) (e : Instance) (w : List Bool) (prices violation : Delivery) (f : Findings)
+abbrev both_answered : (m : Mode) (e : Instance) (w : List Bool) (prices violation : Delivery) (f : PricesFound)
     (r : Reply)
-    → FindsPrices name.Prices e w prices (Ok f)
-    → AnswersCertificate (StatesViolation name.Violation) (beside m f) e w violation r
+    → FindsPrices name.Prices m e w prices (Ok f)
+    → AnswersCertificate (StatesViolation name.Violation) (beside f.mode f.findings) e w violation r
     → AnswersCertificate (StatesBoth violation) (both_reply m) e w prices r
 both_answered m e w prices violation f r found answered = record {
   c = Ok (found.0, answered.c);
-  given = (found.1.0, answered.given);
+  given = (found.1, answered.given);
   out = answered.out
-      ∙ ap (λ (g : Findings). with_input answered.c (λ claim. beside m g e w claim)) found.1.1
+      ∙ ap (λ (k : Mode). with_input answered.c (λ claim. beside k f.findings e w claim)) found.2.mode
+      ∙ ap (λ (g : Findings). with_input answered.c (λ claim. beside m g e w claim)) found.2.findings
       ∙ ap (λ (v : Verdict). with_input answered.c (λ claim. joined (both_object m e w v (findings e w found.0) claim)
       (verdict_reply m e w v (findings e w found.0) None) (violation_reply e w claim)))
-      (told_verdict m e w found.0 (denominator-low name.Prices e prices found.0 found.1.0));
+      (told_verdict m e w found.0 (denominator-low name.Prices e prices found.0 found.1));
 }
 
 -- The same on inputs in their turn.
@@ -143,7 +146,7 @@ both_in_turn m election outcome prices violation e w of_prices of_violation r gi
 pub both_ended_at_prices : (m : Mode) (election : Turn) (outcome : FileTurn) (prices violation : Turn) (e : Instance)
     (w : List Bool) (why : Unanswered)
     → Gives StatesElection election (Ok e) → GivesOutcome e outcome (Ok w)
-    → IfTaken {A = Findings} (Err why) (Gives (FindsPrices name.Prices e w) prices)
+    → IfTaken {A = PricesFound} (Err why) (Gives (FindsPrices name.Prices m e w) prices)
     → violation None
     → IfSome (or_refusal (λ r. r) (Err why)) (ReadsBoth m election outcome prices violation)
 both_ended_at_prices m election outcome prices violation e w (unanswered.Refused r) given taken judged violation_left =
@@ -152,10 +155,10 @@ both_ended_at_prices m election outcome prices violation e w (unanswered.Refused
 both_ended_at_prices m election outcome prices violation e w unanswered.Memory given taken judged violation_left = tt
 
 pub both_settled : (m : Mode) (election : Turn) (outcome : FileTurn) (prices violation : Turn) (e : Instance)
-    (w : List Bool) (f : Findings) (d : Delivery) (work : Option Reply)
+    (w : List Bool) (f : PricesFound) (d : Delivery) (work : Option Reply)
     → Gives StatesElection election (Ok e) → GivesOutcome e outcome (Ok w)
-    → Gives (FindsPrices name.Prices e w) prices (Ok f) → violation (Some d)
-    → IfSome work (AnswersCertificate (StatesViolation name.Violation) (beside m f) e w d)
+    → Gives (FindsPrices name.Prices m e w) prices (Ok f) → violation (Some d)
+    → IfSome work (AnswersCertificate (StatesViolation name.Violation) (beside f.mode f.findings) e w d)
     → IfSome work (ReadsBoth m election outcome prices violation)
 both_settled m election outcome prices violation e w f d None given taken judged delivered found = tt
 both_settled m election outcome prices violation e w f d (Some r) given taken judged delivered found =

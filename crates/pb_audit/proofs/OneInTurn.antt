@@ -9,7 +9,6 @@ use Rattle.pb_reply.specs.Replies.{Answer, Reply, TellsReply}
 use Rattle.pb_reply.specs.Turns.{gives, gives_file}
 use Rattle.pb_input.specs.declared.InputName.TheVariants as name
 use Rattle.pb_reply.specs.declared.answer.Format.{Format}
-use Rattle.pb_reply.specs.declared.answer.Format.TheVariants.{Lines}
 use Rattle.pb_reply.specs.declared.status.Status.{Status}
 use Rattle.pb_audit.specs.Answers.{AnswersAudit, AnswersElection, AnswersTidy, AuditRules, OfAccepted, audit_reply, price_rules, refutation_rules, violation_rules}
 use Rattle.pb_audit.specs.Both.{AnswersBoth, Both, ReadsBoth, StatesBoth, both_rules}
@@ -278,9 +277,9 @@ question-one format (question.ExplainGroups k) election outcome certificate viol
     (λ a x. (x, tt, tt)) (λ a x. x.0)
     (figured-told format (explained_groups_rules k) (groups_promise k) election outcome)
 question-one format (question.GroupMargins k) election outcome certificate violation =
-    one-of (TellsReply Lines (ReadsFigured (group_margin_rules k) (gives election) (gives_file outcome))) _
+    one-of (TellsReply format (ReadsFigured (group_margin_rules k) (gives election) (gives_file outcome))) _
     (λ a x. (x, tt, tt)) (λ a x. x.0)
-    (figured-told Lines (group_margin_rules k) (λ e w xs figures. refl) election outcome)
+    (figured-told format (group_margin_rules k) (λ e w xs figures. refl) election outcome)
 question-one format (question.Prices m) election outcome certificate violation =
     one-of (TellsReply format (ReadsAudit (price_rules m) (gives election) (gives_file outcome) (gives certificate))) _
     (λ a x. (x, tt)) (λ a x. x.0)
@@ -302,9 +301,9 @@ question-one format (question.Explain m) election outcome certificate violation 
     (λ a x. (x, tt)) (λ a x. x.0)
     (audit-told format (explained_rules m) election outcome certificate (explained-one m election outcome certificate))
 question-one format question.Margins election outcome certificate violation =
-    one-of (TellsReply Lines (ReadsAudit margin_rules (gives election) (gives_file outcome) (gives certificate))) _
+    one-of (TellsReply format (ReadsAudit margin_rules (gives election) (gives_file outcome) (gives certificate))) _
     (λ a x. (x, tt)) (λ a x. x.0)
-    (audit-told Lines margin_rules election outcome certificate (margins-reply-one election outcome certificate))
+    (audit-told format margin_rules election outcome certificate (margins-reply-one election outcome certificate))
 question-one format question.Tidy election outcome certificate violation =
     one-of (ReadsTidy (gives election) (gives certificate)) _ (λ a x. (x, tt, tt)) (λ a x. x.0)
     (tidy-in-turn-one election certificate)

@@ -7,7 +7,6 @@ use Rattle.pb_reply.specs.Inputs.{InTurn, Stated, audited}
 use Rattle.pb_reply.specs.Replies.{Answer, Reply, TellsReply}
 use Rattle.pb_reply.specs.Turns.{FileTurn, Turn}
 use Rattle.pb_reply.specs.declared.answer.Format.{Format}
-use Rattle.pb_reply.specs.declared.answer.Format.TheVariants.{Lines}
 use Rattle.pb_reply.specs.declared.status.Status.{Status}
 use Rattle.pb_audit.specs.Answers.{AuditRules, price_rules, refutation_rules, violation_rules}
 use Rattle.pb_audit.specs.Both.{ReadsBoth, both_rules}
@@ -106,7 +105,7 @@ answers-weaker format (question.Groups k) e f o p c d v u es os cs vs a h =
 answers-weaker format (question.ExplainGroups k) e f o p c d v u es os cs vs a h =
     (tells-weaker format _ _ (figured-weaker (explained_groups_rules k) e f o p es os) a h.0, cs None h.1, vs None h.2)
 answers-weaker format (question.GroupMargins k) e f o p c d v u es os cs vs a h =
-    (tells-weaker Lines _ _ (figured-weaker (group_margin_rules k) e f o p es os) a h.0, cs None h.1, vs None h.2)
+    (tells-weaker format _ _ (figured-weaker (group_margin_rules k) e f o p es os) a h.0, cs None h.1, vs None h.2)
 answers-weaker format (question.Prices m) e f o p c d v u es os cs vs a h =
     (audit-told-weaker format (price_rules m) e f o p c d es os cs a h.0, vs None h.1)
 answers-weaker format question.Violation e f o p c d v u es os cs vs a h =
@@ -118,6 +117,6 @@ answers-weaker format (question.Both m) e f o p c d v u es os cs vs a h =
 answers-weaker format (question.Explain m) e f o p c d v u es os cs vs a h =
     (audit-told-weaker format (explained_rules m) e f o p c d es os cs a h.0, vs None h.1)
 answers-weaker format question.Margins e f o p c d v u es os cs vs a h =
-    (audit-told-weaker Lines margin_rules e f o p c d es os cs a h.0, vs None h.1)
+    (audit-told-weaker format margin_rules e f o p c d es os cs a h.0, vs None h.1)
 answers-weaker format question.Tidy e f o p c d v u es os cs vs a h =
     (tidy-weaker e f c d es cs a h.0, os None h.1, vs None h.2)

@@ -27,24 +27,19 @@ use Rattle.pb_audit.specs.Objects.{both_text}
 use Rattle.pb_records.specs.Records.{Text}
 use Rattle.pb_input.specs.declared.InputName.TheVariants as name
 use Rattle.pb_reply.specs.declared.status.Status.{Status}
-use Rattle.pb_reply.specs.declared.status.Status.TheVariants.{Yes, No}
-use Rattle.pb_reply.specs.declared.status.Unmet.TheVariants as unmet
+use Rattle.pb_reply.specs.declared.status.Status.TheVariants.{Yes}
+use Rattle.pb_report.specs.Found.{yes_where_both}
 
 -- what a violation certificate states: its measure, a group and what it demands
 abbrev pub GroupAndDemand : Type 0
 GroupAndDemand = Measure × List ℕ × List ℕ
 
--- the lines of both, and an object with the object on each; yes where both are a yes; where neither is, what fails
--- first of each
-abbrev pub yes_where_both : Status → Status → Status
-yes_where_both Yes second = second
-yes_where_both (No (unmet.Prices f)) (No (unmet.Violation g)) = No (unmet.Both f g)
-yes_where_both first second = first
-
 abbrev pub is_yes : Status → Bool
 is_yes Yes = true
 is_yes other = false
 
+-- the lines of both, and an object with the object on each; yes where both are a yes; where neither is, what fails
+-- first of each
 abbrev pub joined : (Bool → Text) → Reply → Reply → Reply
 joined of_both first second = record {
   lines = first.lines ++ second.lines;

@@ -1,5 +1,5 @@
 -- What `explain` answers: the line of the verdict, an empty line, and a table of what each condition or test comes to.
-use Rattle.std.specs.Prelude.{◌≡◌, Bool, ℕ, List, [], ◌∷◌, ◌++◌, Option, None}
+use Rattle.std.specs.Prelude.{◌≡◌, Bool, ℕ, List, [], ◌∷◌, ◌++◌, Option}
 use Rattle.pb_records.specs.Loading.{Delivery}
 use Rattle.pb_election.specs.Instance.{Instance}
 use Rattle.pb_certificate.specs.Prices.{Prices}
@@ -10,7 +10,7 @@ use Rattle.pb_cohesion.specs.RefutationFindings.{refutation_findings}
 use Rattle.pb_cohesion.specs.Satisfactions.{worth_by}
 use Rattle.pb_cohesion.specs.ViolationFindings.{violation_findings}
 use Rattle.pb_price.specs.Findings.{findings}
-use Rattle.pb_price.specs.NearestGroup.{nearest_to}
+use Rattle.pb_report.specs.Found.{nearest_on_yes}
 use Rattle.pb_price.specs.declared.Findings.{Findings}
 use Rattle.pb_cohesion.specs.declared.Mode.{Mode}
 use Rattle.pb_price.specs.First.{First, verdict_of}
@@ -41,10 +41,6 @@ with_table table r = record { lines = r.lines ++ ([] ∷ table); json = r.json; 
 abbrev pub groups_told : Verdict → List Text → List Text
 groups_told Supported lines = [] ∷ lines
 groups_told (Failed f) lines = []
-
-abbrev pub nearest_on_yes : Verdict → OnGroups → Instance → List Bool → Option NearestGroup
-nearest_on_yes Supported said e w = nearest_to said e w
-nearest_on_yes (Failed f) said e w = None
 
 -- a verdict on prices with the table of what is found of them, and which group comes nearest to what a yes says
 abbrev pub explained_verdict : Mode → Instance → List Bool → Verdict → Findings → OnGroups → Option NearestGroup → Reply

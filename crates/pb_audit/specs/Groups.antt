@@ -9,14 +9,13 @@ use Rattle.pb_explain.specs.MarginTable.{record_line}
 use Rattle.pb_explain.specs.ShownGroup.{shown_table}
 use Rattle.pb_reply.specs.Lines.{groups_line}
 use Rattle.pb_reply.specs.Promises.{GroupsPromise}
-use Rattle.pb_reply.specs.Replies.{Answer, Reply, TellsReply, groups_status}
+use Rattle.pb_reply.specs.Replies.{Reply, groups_status}
 use Rattle.pb_reply.specs.Turns.{FileTurn, Turn}
-use Rattle.pb_reply.specs.declared.answer.Format.TheVariants.{Lines}
 use Rattle.pb_reply.specs.declared.status.Status.{Status}
 use Rattle.pb_reply.specs.declared.status.Status.TheVariants.{Yes}
 use Rattle.pb_audit.specs.Explained.{with_table}
 use Rattle.pb_audit.specs.Figured.{FigureRules, ReadsFigured}
-use Rattle.pb_audit.specs.Objects.{groups_text}
+use Rattle.pb_audit.specs.Objects.{group_margins_text, groups_text}
 
 -- the reply by the figures of all projects
 abbrev pub groups_reply : Measure → Instance → List Bool → List GroupFigures → Reply
@@ -43,18 +42,18 @@ explained_groups_rules m = record { measure = m; reply = explained_groups m; pro
 abbrev pub ReadsExplainedGroups : Measure → Turn → FileTurn → Reply → Type 0
 ReadsExplainedGroups m election outcome r = ReadsFigured (explained_groups_rules m) election outcome r
 
--- the table of margins, line by line, which is for programs as it is, and so has no object
+-- the table of margins, line by line, and an object on the same groups
 abbrev pub group_margins_reply : Measure → Instance → List Bool → List GroupFigures → Reply
-group_margins_reply m e w xs =
-    record { lines = map record_line (group_margin_table m e xs); json = []; status = Yes }
+group_margins_reply m e w xs = record {
+  lines = map record_line (group_margin_table m e xs);
+  json = group_margins_text m e w xs;
+  status = Yes;
+}
 
 -- its status is yes, whether or not a group falls short
 abbrev pub group_margin_rules : Measure → FigureRules
 group_margin_rules m =
     record { measure = m; reply = group_margins_reply m; promises = λ (status : Status) e w. status ≡ Yes }
 
--- the answer on an election and an outcome file where one is given, in their turn: the text of the table, or of the line
--- of the input that is refused
-abbrev pub ReadsGroupMargins : Measure → Turn → FileTurn → Answer Status → Type 0
-ReadsGroupMargins m election outcome answer =
-    TellsReply Lines (ReadsFigured (group_margin_rules m) election outcome) answer
+abbrev pub ReadsGroupMargins : Measure → Turn → FileTurn → Reply → Type 0
+ReadsGroupMargins m election outcome r = ReadsFigured (group_margin_rules m) election outcome r

@@ -14,7 +14,7 @@ use Rattle.pb_audit.specs.declared.question.Question.{Question}
 use Rattle.pb_audit.specs.declared.question.Question.TheVariants as question
 
 -- the answer in a format to a question on an election, an outcome file where one is given, a certificate, and the
--- violation certificate beside prices; tables of margins and a canonical text are for programs as they are
+-- violation certificate beside prices; a canonical text is for programs as it is
 abbrev pub Answers : Format → Question → Turn → FileTurn → Turn → Turn → Answer Status → Type 0
 Answers format question.Read election outcome certificate violation a =
     TellsReply format (ReadsElection election) a × outcome None × certificate None × violation None
@@ -23,7 +23,7 @@ Answers format (question.Groups k) election outcome certificate violation a =
 Answers format (question.ExplainGroups k) election outcome certificate violation a =
     TellsReply format (ReadsExplainedGroups k election outcome) a × certificate None × violation None
 Answers format (question.GroupMargins k) election outcome certificate violation a =
-    ReadsGroupMargins k election outcome a × certificate None × violation None
+    TellsReply format (ReadsGroupMargins k election outcome) a × certificate None × violation None
 Answers format (question.Prices m) election outcome certificate violation a =
     TellsReply format (ReadsPrices m election outcome certificate) a × violation None
 Answers format question.Violation election outcome certificate violation a =
@@ -35,13 +35,11 @@ Answers format (question.Both m) election outcome prices violation a =
 Answers format (question.Explain m) election outcome certificate violation a =
     TellsReply format (ReadsExplained m election outcome certificate) a × violation None
 Answers format question.Margins election outcome certificate violation a =
-    ReadsMargins election outcome certificate a × violation None
+    TellsReply format (ReadsMargins election outcome certificate) a × violation None
 Answers format question.Tidy election outcome certificate violation a =
     ReadsTidy election certificate a × outcome None × violation None
 
--- the questions on which a JSON object is answered: all but those that are answered by a file of its own form
+-- the questions on which a JSON object is answered: all but that for a canonical text, which is a file of its own form
 abbrev pub HasObject : Question → Type 0
-HasObject (question.GroupMargins k) = ⊥
-HasObject question.Margins = ⊥
 HasObject question.Tidy = ⊥
 HasObject _ = Unit {0}

@@ -5,10 +5,10 @@ ghost use Rattle.pb_reply.specs.Turns.{file_turn, turn};
 ghost use Rattle.pb_reply.specs.declared.answer.Format.TheVariants.{Json};
 ghost use Rattle.pb_audit.specs.Questions.{Answers, HasObject};
 
-use crate::auditing::{answer_as_by, answer_by};
+use crate::auditing::answer_as_by;
 use crate::both::both;
 use crate::explain::ExplainAudit;
-use crate::figured::{figured, figured_as};
+use crate::figured::figured_as;
 use crate::groups::{ExplainGroupsAudit, GroupMarginAudit, GroupsAudit};
 use crate::margins::MarginAudit;
 use crate::prices::PriceAudit;
@@ -21,8 +21,8 @@ use pb_reply::{Answer, Format, Given, Status};
 use std::alloc::{AllocError, Global};
 
 /// The answer in a format to a question on an election, an outcome file where one is given, a certificate, and the
-/// violation certificate beside prices: a text, and how it ends. The tables of margins and the canonical text of prices
-/// are the same in each format. The inputs are files in memory, or readers that are loaded when their turn comes, of at
+/// violation certificate beside prices: a text, and how it ends. The canonical text of prices is the same in each
+/// format. The inputs are files in memory, or readers that are loaded when their turn comes, of at
 /// most 2^28 bytes each. They are taken in this order; an input that a question doesn't have,
 /// or one after an input that is refused, is left alone. Without an outcome file the outcome is the election's own.
 /// Where an input is refused the text is the line of the refusal. The notes on the election, and that on a yes to
@@ -41,8 +41,8 @@ pub fn answer<E: Given, O: Given, C: Given, V: Given>(
     // question says: of prices, that it is yes exactly where they support the outcome, and what this says of every
     // group; of a group and its demand, that it is yes exactly where they are a violation; and so on.
     ensures answers { IfOk result (Answers format question (turn E.delivers election.old election.new) (file_turn O.delivers outcome.old outcome.new) (turn C.delivers certificate.old certificate.new) (turn V.delivers violation.old violation.new)) }
-    // As JSON the answer is one line, which is one value, whatever is in the inputs. The tables of margins and the
-    // canonical text are files of their own form.
+    // As JSON the answer is one line, which is one value, whatever is in the inputs. The canonical text of prices is a file
+    // of its own form.
     ensures json { format ≡ Json → HasObject question → IfOk result (λ answer. AreJsonLines answer.text) }
 {
     match question {
@@ -58,7 +58,7 @@ pub fn answer<E: Given, O: Given, C: Given, V: Given>(
         Question::GroupMargins(measure) => {
             let margins = GroupMarginAudit { measure };
             let mut untold = Vec::new(alloc);
-            figured(alloc, &margins, election, outcome, &mut untold)
+            figured_as(alloc, format, &margins, election, outcome, &mut untold)
         }
         Question::Prices(mode) => {
             let prices = PriceAudit { mode };
@@ -117,8 +117,9 @@ pub fn answer<E: Given, O: Given, C: Given, V: Given>(
         }
         Question::Margins => {
             let mut untold = Vec::new(alloc);
-            answer_by(
+            answer_as_by(
                 alloc,
+                format,
                 &MarginAudit,
                 election,
                 outcome,

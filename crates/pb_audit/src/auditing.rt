@@ -5,20 +5,20 @@ ghost use Rattle.pb_reply.specs.Inside.Loaded.{lent};
 ghost use Rattle.pb_audit.specs.Inside.Certificates.{AnswersCertificate, IfTold, Promised};
 ghost use Rattle.pb_audit.specs.InTurn.{ReadsAudit};
 ghost use Rattle.pb_reply.specs.Replies.{AreJsonLines, TellsReply};
-ghost use Rattle.pb_reply.specs.declared.answer.Format.TheVariants.{Json, Lines};
+ghost use Rattle.pb_reply.specs.declared.answer.Format.TheVariants.{Json};
 ghost use Rattle.pb_reply.specs.Turns.{file_turn, turn};
 
 use pb_election::DecidedElection;
 use pb_reply::{
-    Answer, AsFile, File, Format, FromReply, Given, Reply, Status, Unanswered, or_refusal,
-    push_notes, take_decided, take_election,
+    Answer, AsFile, File, Format, Given, InFormats, Status, Unanswered, or_refusal, push_notes,
+    take_decided, take_election,
 };
 use std::alloc::{AllocError, Global};
 
 /// How certificates of one kind are audited.
 pub(crate) trait Audit {
     // What is told of the replies.
-    type Told: FromReply;
+    type Told: InFormats;
 
     // What a certificate of this kind states, such as prices.
     ghost Subject: { Type 0 };
@@ -41,7 +41,7 @@ pub(crate) trait Audit {
 
 /// The answer in a format on an election, an outcome file where one is given, and a certificate, taken in this order.
 /// The notes on the election, each as `read` prints it, are added to `notes`, and behind them those on what is told.
-pub(crate) fn answer_as_by<A: Audit<Told = Reply>, E: Given, O: Given, C: Given>(
+pub(crate) fn answer_as_by<A: Audit, E: Given, O: Given, C: Given>(
     alloc: Global,
     format: Format,
     audit: &A,
@@ -54,24 +54,8 @@ pub(crate) fn answer_as_by<A: Audit<Told = Reply>, E: Given, O: Given, C: Given>
     ensures json { format ≡ Json → IfOk result (λ answer. AreJsonLines answer.text) }
 {
     let work = audit_in_turn(alloc, audit, election, outcome, certificate, notes);
-    let reply = or_refusal(alloc, work)?;
-    reply.answer_as(alloc, format)
-}
-
-/// The same as lines, whatever is told of the replies.
-pub(crate) fn answer_by<A: Audit, E: Given, O: Given, C: Given>(
-    alloc: Global,
-    audit: &A,
-    election: &mut E,
-    outcome: &mut Option<O>,
-    certificate: &mut C,
-    notes: &mut Vec<String>,
-) -> Result<Answer<Status>, AllocError>
-    ensures { IfOk result (TellsReply Lines (ReadsAudit (A.rules audit.now) (turn E.delivers election.old election.new) (file_turn O.delivers outcome.old outcome.new) (turn C.delivers certificate.old certificate.new))) }
-{
-    let work = audit_in_turn(alloc, audit, election, outcome, certificate, notes);
     let told = or_refusal(alloc, work)?;
-    told.into_answer(alloc)
+    told.in_format(alloc, format)
 }
 
 /// What is told of the reply on the inputs.

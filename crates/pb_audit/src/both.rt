@@ -6,20 +6,21 @@ ghost use Rattle.pb_reply.specs.Inputs.{StatesViolation};
 ghost use Rattle.pb_reply.specs.Inside.Loaded.{lent};
 ghost use Rattle.pb_reply.specs.Replies.{AreJsonLines, TellsReply};
 ghost use Rattle.pb_reply.specs.Turns.{file_turn, turn};
-ghost use Rattle.pb_audit.specs.Inside.Certificates.{AnswersCertificate, CanBeTold, FindsPrices};
+ghost use Rattle.pb_audit.specs.Inside.Certificates.{AnswersCertificate};
+ghost use Rattle.pb_report.specs.CanBeTold.{PricesCanBeTold};
+ghost use Rattle.pb_report.specs.Found.{FindsPrices};
 ghost use Rattle.pb_reply.specs.Inside.Taking.{Gives, IfTaken, or_refusal};
 ghost use Rattle.pb_reply.specs.declared.answer.Format.TheVariants.{Json};
 
-use crate::prices::{PricesFound, price_findings};
-use crate::report::{Audited, Report};
-use crate::violation::group_in;
+use crate::rendering::Rendering;
 use pb_election::DecidedElection;
 use pb_input::InputName;
-use pb_price::{Findings, Mode};
+use pb_price::Mode;
 use pb_reply::{
-    Answer, AsFile, File, Format, Given, Reply, Status, Unanswered, Unmet, or_refusal,
-    take_decided, take_election,
+    Answer, AsFile, File, Format, Given, Reply, Status, Unanswered, or_refusal, take_decided,
+    take_election,
 };
+use pb_report::{PricesFound, Report, group_in, prices_in};
 use std::alloc::{AllocError, Global};
 
 /// The answer in a format on an election, an outcome file where one is given, a price certificate and a violation
@@ -57,55 +58,37 @@ fn both_in_turn<E: Given, O: Given, P: Given, V: Given>(
 {
     let election = take_election(alloc, election)?;
     let decided = take_decided(alloc, election, outcome)?;
-    let findings = take_findings(alloc, &decided, prices)?;
+    let prices = take_prices(alloc, &decided, prices, mode)?;
     let violation = violation.take(alloc)?;
-    beside(alloc, &decided, findings, violation.as_file(), mode, notes)
+    beside(alloc, &decided, prices, violation.as_file(), notes)
 }
 
 /// What is found of prices, whose turn has come. What was taken of them is let go.
-fn take_findings<P: Given>(
+fn take_prices<P: Given>(
     alloc: Global,
     decided: &DecidedElection,
     prices: &mut P,
-) -> Result<Findings, Unanswered>
-    ensures taken { IfTaken result (Gives (FindsPrices InputName.Prices (decided.now).election (decided.now).outcome.marks) (turn P.delivers prices.old prices.new)) }
-    ensures told { IfOk result (CanBeTold (decided.now).election) }
+    mode: Mode,
+) -> Result<PricesFound, Unanswered>
+    ensures taken { IfTaken result (Gives (FindsPrices InputName.Prices mode (decided.now).election (decided.now).outcome.marks) (turn P.delivers prices.old prices.new)) }
+    ensures told { IfOk result (PricesCanBeTold (decided.now).election) }
 {
     let taken = prices.take(alloc)?;
-    price_findings(alloc, decided, InputName::Prices, taken.as_file())
+    prices_in(alloc, decided, InputName::Prices, taken.as_file(), mode)
 }
 
-/// The reply on a violation certificate beside findings on prices.
+/// The reply on a violation certificate beside what is found of prices.
 fn beside(
     alloc: Global,
     decided: &DecidedElection,
-    findings: Findings,
+    prices: PricesFound,
     violation: File<'_>,
-    mode: Mode,
     notes: &mut Vec<String>,
 ) -> Result<Reply, Unanswered>
-    requires { CanBeTold (decided.now).election findings }
-    ensures { IfSome (or_refusal (λ r. r) result) (AnswersCertificate (StatesViolation InputName.Violation) (spec.beside mode findings) (decided.now).election (decided.now).outcome.marks (lent violation.entry)) }
+    requires { PricesCanBeTold (decided.now).election prices }
+    ensures { IfSome (or_refusal (λ r. r) result) (AnswersCertificate (StatesViolation InputName.Violation) (spec.beside prices.mode prices.findings) (decided.now).election (decided.now).outcome.marks (lent violation.entry)) }
 {
     let group = group_in(alloc, decided, InputName::Violation, violation)?;
-    let prices = PricesFound {
-        mode,
-        findings,
-        nearest: None,
-    };
-    let report = Report::of(Audited::Both(prices, group));
-    Ok(report.reply(alloc, decided, notes)?)
-}
-
-/// Yes where both are a yes, and else the first that is not; where neither is, what fails first of each.
-pub(crate) fn yes_where_both(first: Status, second: Status) -> Status
-    ensures { result ≡ spec.yes_where_both first second }
-{
-    match (first, second) {
-        (Status::Yes, second) => second,
-        (Status::No(Unmet::Prices(failure)), Status::No(Unmet::Violation(other))) => {
-            Status::No(Unmet::Both(failure, other))
-        }
-        (first, _) => first,
-    }
+    let both = Rendering::of(Report::Both(prices, group));
+    Ok(both.reply(alloc, decided, notes)?)
 }

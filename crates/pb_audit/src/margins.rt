@@ -1,23 +1,22 @@
 //! The margins of a price certificate.
 ghost use Rattle.pb_audit.specs.Margins.{margin_rules};
 ghost use Rattle.pb_certificate.specs.Prices.{Prices};
-ghost use Rattle.pb_audit.specs.Inside.Certificates.{FindsMargins};
-ghost use Rattle.pb_reply.specs.Inside.Loaded.{lent};
-ghost use Rattle.pb_reply.specs.Inside.Taking.{IfTaken};
 
 use crate::auditing::Audit;
+use crate::objects::margins_object;
 use pb_election::DecidedElection;
 use pb_explain::margin_table_text;
-use pb_input::{InputFault, InputName};
-use pb_price::{Margins, margins_of};
-use pb_reply::{Answer, File, Status, Unanswered, bytes_of, unanswered_at};
-use std::alloc::{AllocError, Global};
+use pb_input::InputName;
+use pb_price::Mode;
+use pb_reply::{File, Status, Table, Unanswered};
+use pb_report::prices_in;
+use std::alloc::Global;
 
 /// The audit that answers with the table of margins.
 pub(crate) struct MarginAudit;
 
 impl Audit for MarginAudit {
-    type Told = Answer<Status>;
+    type Told = Table;
 
     ghost Subject = { Prices };
 
@@ -30,29 +29,19 @@ impl Audit for MarginAudit {
         decided: &DecidedElection,
         certificate: File<'_>,
         _notes: &mut Vec<String>,
-    ) -> Result<Answer<Status>, Unanswered> {
-        let margins = price_margins(alloc, decided, certificate)?;
-        Ok(Answer {
-            text: margin_table_text(alloc, decided.election(), &margins)?,
+    ) -> Result<Table, Unanswered> {
+        // The figures are the same in each mode.
+        let prices = prices_in(
+            alloc,
+            decided,
+            InputName::Certificate,
+            certificate,
+            Mode::PLAIN,
+        )?;
+        Ok(Table {
+            text: margin_table_text(alloc, decided.election(), &prices.margins)?,
+            object: margins_object(alloc, decided, &prices.margins)?,
             status: Status::Yes,
         })
-    }
-}
-
-/// The figures of each project by the prices that a certificate states.
-fn price_margins(
-    alloc: Global,
-    decided: &DecidedElection,
-    certificate: File<'_>,
-) -> Result<Margins, Unanswered>
-    ensures { IfTaken result (FindsMargins (decided.now).election (decided.now).outcome.marks (lent certificate.entry)) }
-{
-    let bytes = bytes_of(InputName::Certificate, certificate)?;
-    match margins_of(alloc, decided.election(), decided.outcome(), bytes) {
-        Ok(margins) => Ok(margins),
-        Err(refusal) => Err(unanswered_at(
-            InputName::Certificate,
-            InputFault::Certificate(refusal),
-        )),
     }
 }

@@ -6,9 +6,9 @@ ghost use Rattle.pb_reply.specs.Turns.{file_turn, reads, turn};
 ghost use Rattle.pb_reply.specs.Writing.{Writes, WritesReply};
 ghost use Rattle.pb_reply.specs.declared.answer.Format.TheVariants.{Lines};
 
-use crate::auditing::answer_by;
+use crate::auditing::answer_as_by;
 use crate::both::both;
-use crate::figured::figured;
+use crate::figured::figured_as;
 use crate::groups::GroupsAudit;
 use crate::prices::PriceAudit;
 use crate::read::read;
@@ -53,7 +53,16 @@ pub fn run_prices<E: Source, O: Source, C: Source, W: Sink>(
 {
     let prices = PriceAudit { mode };
     let mut notes = Vec::new(alloc);
-    answer_by(alloc, &prices, election, outcome, certificate, &mut notes)?.write(out)
+    let answer = answer_as_by(
+        alloc,
+        Format::Lines,
+        &prices,
+        election,
+        outcome,
+        certificate,
+        &mut notes,
+    )?;
+    answer.write(out)
 }
 
 /// Reads an election, an outcome file where one is given, and a violation certificate, of at most 2^28 bytes each, and
@@ -71,8 +80,9 @@ pub fn run_violation<E: Source, O: Source, C: Source, W: Sink>(
     ensures { WritesReply Lines W.Sink (ReadsViolation (turn (reads E.Source) election.old election.new) (file_turn (reads O.Source) outcome.old outcome.new) (turn (reads C.Source) certificate.old certificate.new)) result out.old out.new }
 {
     let mut notes = Vec::new(alloc);
-    let answer = answer_by(
+    let answer = answer_as_by(
         alloc,
+        Format::Lines,
         &ViolationAudit,
         election,
         outcome,
@@ -99,7 +109,16 @@ pub fn run_refutation<E: Source, O: Source, C: Source, W: Sink>(
 {
     let weights = RefutationAudit { stable };
     let mut notes = Vec::new(alloc);
-    answer_by(alloc, &weights, election, outcome, certificate, &mut notes)?.write(out)
+    let answer = answer_as_by(
+        alloc,
+        Format::Lines,
+        &weights,
+        election,
+        outcome,
+        certificate,
+        &mut notes,
+    )?;
+    answer.write(out)
 }
 
 /// Reads an election and an outcome file where one is given, of at most 2^28 bytes each, and writes the line of the answer on
@@ -117,7 +136,8 @@ pub fn run_groups<E: Source, O: Source, W: Sink>(
 {
     let groups = GroupsAudit { measure };
     let mut notes = Vec::new(alloc);
-    figured(alloc, &groups, election, outcome, &mut notes)?.write(out)
+    let lines = Format::Lines;
+    figured_as(alloc, lines, &groups, election, outcome, &mut notes)?.write(out)
 }
 
 /// Reads an election, an outcome file where one is given, a price certificate and a violation certificate, of at most

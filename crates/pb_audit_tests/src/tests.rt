@@ -5,3 +5,4 @@ mod failing;
 mod folders;
 mod groups;
 mod in_turn;
+mod reports;

@@ -4,3 +4,4 @@ pub mod Files
 pub mod Reports
 pub mod Whole
 pub mod Groups
+pub mod Kinds

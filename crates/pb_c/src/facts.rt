@@ -3,8 +3,7 @@ ghost use Rattle.std.specs.Prelude.{◌≡◌};
 ghost use Rattle.pb_c.specs.Facts as spec;
 
 use pb_audit::{InputName, Status, Unmet};
-use pb_cohesion::{RefutationFailure, ViolationFailure};
-use pb_price::Failure;
+use pb_cohesion::FailedAt;
 
 /// A condition or a test that fails.
 #[repr(C)]
@@ -89,7 +88,7 @@ fn condition_of(unmet: Unmet) -> Culprit
     ensures { result ≡ spec.condition_of unmet }
 {
     match unmet {
-        Unmet::Prices(failure) | Unmet::Both(failure, _) => of_prices(failure),
+        Unmet::Prices(failure) | Unmet::Both(failure, _) => culprit_of(&failure.failed_at()),
         Unmet::Violation(_) | Unmet::Refutation(_) | Unmet::Groups { .. } => NONE,
     }
 }
@@ -99,55 +98,19 @@ fn test_of(unmet: Unmet) -> Culprit
 {
     match unmet {
         Unmet::Prices(_) => NONE,
-        Unmet::Violation(failure) | Unmet::Both(_, failure) => of_violation(failure),
-        Unmet::Refutation(failure) => of_refutation(failure),
-        Unmet::Groups { project, .. } => failing(31, 0, project),
+        Unmet::Violation(failure) | Unmet::Both(_, failure) => culprit_of(&failure.failed_at()),
+        Unmet::Refutation(failure) => culprit_of(&failure.failed_at()),
+        Unmet::Groups { project, .. } => culprit_of(&FailedAt::short_for(project)),
     }
 }
 
-fn of_prices(failure: Failure) -> Culprit
-    ensures { result ≡ spec.of_prices failure }
-{
-    match failure {
-        Failure::Feasible => failing(1, 0, 0),
-        Failure::Exhaustive(j) => failing(2, 0, j),
-        Failure::Cover => failing(3, 0, 0),
-        Failure::C1(i, j) => failing(4, i, j),
-        Failure::C2(i) => failing(5, i, 0),
-        Failure::C3(j) => failing(6, 0, j),
-        Failure::C4(j) => failing(7, 0, j),
-        Failure::C5(j) => failing(8, 0, j),
-        Failure::S5(j) => failing(9, 0, j),
-    }
-}
-
-fn of_violation(failure: ViolationFailure) -> Culprit
-    ensures { result ≡ spec.of_violation failure }
-{
-    match failure {
-        ViolationFailure::V1 => failing(11, 0, 0),
-        ViolationFailure::V2(i, j) => failing(12, i, j),
-        ViolationFailure::V3 => failing(13, 0, 0),
-        ViolationFailure::V4(i) => failing(14, i, 0),
-    }
-}
-
-fn of_refutation(failure: RefutationFailure) -> Culprit
-    ensures { result ≡ spec.of_refutation failure }
-{
-    match failure {
-        RefutationFailure::U1(j) => failing(21, 0, j),
-        RefutationFailure::U2 => failing(22, 0, 0),
-        RefutationFailure::U3 => failing(23, 0, 0),
-    }
-}
-
-fn failing(number: u32, voter: u32, project: u32) -> Culprit
-    ensures { result ≡ spec.culprit number voter project }
+/// What fails, as C is told it.
+fn culprit_of(failed: &FailedAt) -> Culprit
+    ensures { result ≡ spec.culprit_of failed.now }
 {
     Culprit {
-        number,
-        voter,
-        project,
+        number: failed.number,
+        voter: failed.voter.unwrap_or(0),
+        project: failed.project.unwrap_or(0),
     }
 }

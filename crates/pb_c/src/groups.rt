@@ -2,12 +2,10 @@
 ghost use Rattle.std.specs.Prelude.{◌≡◌, ◌≤◌};
 ghost use Rattle.pb_c.specs.Groups.{groups_code};
 
+use crate::report::MEMORY_CODE;
 use pb_audit::groups_on_yes;
 use pb_price::OnGroups;
 use std::alloc::Global;
-
-/// The number where memory ran out.
-const MEMORY_CODE: u8 = 4;
 
 /// What a yes to a price certificate says of groups, by its number, or that memory ran out.
 pub(crate) fn groups_on(alloc: Global, election: &[u8], certificate: &[u8], exhaustive: bool) -> u8

@@ -9,6 +9,7 @@ ghost use Rattle.pb_audit.specs.Questions.{Answers};
 ghost use Rattle.pb_c.specs.Commands.{measure_of, question_of};
 ghost use Rattle.pb_c.specs.Files.{given_file, given_mode};
 ghost use Rattle.pb_c.specs.Facts.{no_facts};
+ghost use Rattle.pb_c.specs.Kinds.{TellsKind};
 ghost use Rattle.pb_c.specs.Reports.{IsNothing, Reports, ReportsFacts};
 ghost use Rattle.pb_c.specs.Whole.{IsWhole};
 ghost use Rattle.pb_page.specs.Groups.{ReadsGroupsPage};
@@ -24,6 +25,7 @@ mod facts;
 mod faults;
 mod groups;
 mod hints;
+mod kinds;
 mod notes;
 mod report;
 mod whole;
@@ -33,6 +35,7 @@ use facts::NO_FACTS;
 pub use facts::{Culprit, Facts};
 use groups::groups_on;
 use hints::hint_answer;
+use kinds::tell_kind;
 use notes::note_answer;
 use pb_audit::Format;
 use pb_page::{Language, PageNames};
@@ -90,8 +93,8 @@ pub extern "C" fn pbaudit_answer(
 }
 
 /// Answers a question as one JSON object, in a line: 0 to 4 as `pbaudit_answer` does, whose questions and files these are.
-/// Margins and the canonical text of prices are no object, but as `pbaudit_answer` gives them; so is what is told of a
-/// file that is refused there. `docs/JSON.md` describes the objects. The text and its length are given as by
+/// The canonical text of prices is no object, but as `pbaudit_answer` gives it; so is what is told of a file that is
+/// refused there. `docs/JSON.md` describes the objects. The text and its length are given as by
 /// `pbaudit_answer`.
 #[unsafe(no_mangle)]
 pub extern "C" fn pbaudit_json(
@@ -137,8 +140,8 @@ pub extern "C" fn pbaudit_json(
 /// whose questions and files these are. The text has three parts. First a line, a JSON object of what stands beside the
 /// answer: `notes`, a list of texts; `refusal`, the object of the refusal where a file is refused, and null otherwise; and
 /// `hint`, what a person is told of that, with the `line` of the file on which the refused record begins, from 1, or null,
-/// and `sentences`. Behind it the text of `pbaudit_json`, one line, where the answer is an object: margins and the
-/// canonical text of prices are none. And behind that the text of `pbaudit_answer`. Notes and hints are for people; that
+/// and `sentences`. Behind it the text of `pbaudit_json`, one line, where the answer is an object: the
+/// canonical text of prices is none. And behind that the text of `pbaudit_answer`. Notes and hints are for people; that
 /// they are the right ones is tested and not proved. The text and its length are given as by `pbaudit_answer`.
 #[unsafe(no_mangle)]
 pub extern "C" fn pbaudit_report(
@@ -301,6 +304,17 @@ pub extern "C" fn pbaudit_groups(
     ensures { result ≤ 4 }
 {
     groups_on(alloc, election, certificate, exhaustive)
+}
+
+/// Tells what a file is by its first record that isn't blank: 0, and in `kind` 1 where that is the first of an election, 2
+/// of an outcome file, 3 of a price certificate, 4 of a violation certificate, 5 of a refutation, and 0 where it is none
+/// of these, isn't UTF-8 or is missing; or 4 where memory ran out, and then `kind` is 0. What follows the record isn't
+/// looked at, so the front of a file is enough.
+#[unsafe(no_mangle)]
+pub extern "C" fn pbaudit_kind(alloc: Global, file: &[u8], kind: &mut u8) -> u8
+    ensures { TellsKind file.now result kind.new }
+{
+    tell_kind(alloc, file, kind)
 }
 
 /// Tells a person why a file is refused, by its bytes and by the number and the record (`place`) of its refusal: 0 where it is

@@ -11,7 +11,7 @@ use std::alloc::AllocError;
 const NOTHING_CODE: u8 = 3;
 
 /// The number where memory ran out.
-const MEMORY_CODE: u8 = 4;
+pub(crate) const MEMORY_CODE: u8 = 4;
 
 /// Reports an answer, with what is told of it in numbers, or that memory ran out.
 pub(crate) fn report_facts(

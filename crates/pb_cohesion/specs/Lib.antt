@@ -6,6 +6,7 @@ pub mod EveryGroup
 pub mod FirstV
 pub mod Refutations
 pub mod FirstU
+pub mod Failed
 pub mod ViolationFindings
 pub mod RefutationFindings
 pub mod Satisfactions

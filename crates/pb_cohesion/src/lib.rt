@@ -3,6 +3,7 @@
 #![tactic(auto)]
 
 mod explaining;
+mod failed;
 mod funded;
 pub mod laws;
 mod refutations;
@@ -12,6 +13,7 @@ mod violations;
 mod worths;
 
 pub use explaining::violation_findings;
+pub use failed::FailedAt;
 pub use funded::cost_of_funded;
 pub use refutations::{check_refutation, refutation_findings};
 pub use satisfactions::{Cost, Count, Satisfaction};

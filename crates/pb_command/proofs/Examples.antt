@@ -6,7 +6,7 @@ use Rattle.clap.proofs.OnLiterals.{clap_on_literals}
 use Rattle.pb_certificate.specs.declared.violations.measure.Measure.TheVariants.{ByCost, ByCount}
 use Rattle.pb_command.specs.Commands.{pbaudit}
 use Rattle.pb_command.proofs.Written.{commands_written}
-use Rattle.pb_command.specs.Tasks.{TaskOf, asked_in, explain, explain_groups, faults_of, folder, group_margins, groups, page, prices, read, tidy, violation}
+use Rattle.pb_command.specs.Tasks.{TaskOf, asked_in, explain, explain_groups, faults_of, folder, group_margins, groups, margins, page, prices, read, tidy, violation}
 use Rattle.pb_words.specs.declared.language.Language.TheVariants.{Polish}
 
 bare_task : TaskOf (codes "pbaudit" ∷ []) ≡ Some (read None false)
@@ -63,6 +63,14 @@ group_margins_task : TaskOf
     (group_margins (record { election = codes "e.pb"; outcome = Some (codes "o.csv"); json = false }) (Some ByCost))
 unfolding clap_on_literals commands_written asked_in
 group_margins_task = refl
+
+-- a table as JSON
+
+margins_task : TaskOf
+    (codes "pbaudit" ∷ codes "margins" ∷ codes "e.pb" ∷ codes "c.csv" ∷ codes "--json" ∷ [])
+    ≡ Some (margins (record { election = codes "e.pb"; certificate = codes "c.csv"; outcome = None; json = true }))
+unfolding clap_on_literals commands_written asked_in
+margins_task = refl
 
 groups_in_place_taken : takes pbaudit (codes "pbaudit" ∷ codes "margins" ∷ codes "--groups" ∷ codes "e.pb" ∷ []) ≡ true
 unfolding clap_on_literals commands_written

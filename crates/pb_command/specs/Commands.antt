@@ -89,12 +89,12 @@ page_app = command_of (codes "page") (path_rule (codes "election") ∷ certifica
     ∷ satisfaction_rule ∷ switch_rule (codes "stable") ∷ switch_rule (codes "no-exhaustive")
     ∷ switch_rule (codes "cover") ∷ outcome_rule ∷ language_rule ∷ [])
 
--- `margins ELECTION CERTIFICATE [--outcome FILE]`, and
--- `margins ELECTION --groups [--satisfaction MEASURE] [--outcome FILE]`
+-- `margins ELECTION CERTIFICATE [--outcome FILE] [--json]`, and
+-- `margins ELECTION --groups [--satisfaction MEASURE] [--outcome FILE] [--json]`
 unfoldable pub margins_app : App
 margins_app = command_of (codes "margins")
     (path_rule (codes "election") ∷ certificate_rule ∷ switch_rule (codes "groups") ∷ satisfaction_rule ∷ outcome_rule
-    ∷ [])
+    ∷ switch_rule (codes "json") ∷ [])
 
 -- `tidy ELECTION CERTIFICATE`
 unfoldable pub tidy_app : App

@@ -219,6 +219,7 @@ const TABLES: [Description; 3] = [
             GROUPS,
             Parameter::Satisfaction,
             Parameter::Outcome,
+            JSON,
         ],
         notes: MARGINS_NOTES,
     },

@@ -385,6 +385,9 @@ that comes closest:
 Need, share and missing are whole numbers of millionths over the denominator,
 the number of voters. Here the pool needs 12000000/3 millionths, which is 4.
 
+With --json it prints one JSON object in a line instead, in which 'need' is in
+millionths.
+
 If a file is refused, a line is printed instead of the table, as with 'prices'.
 The table is printed whether or not the certificate supports the outcome, and
 whether or not a group falls short.
@@ -394,7 +397,8 @@ Exit statuses: 0 printed, 2 refused, 3 usage, 4 error.
 Examples:
   pbaudit margins town.pb town.prices.csv > margins.csv
   pbaudit margins town.pb town.prices.csv --outcome town.outcome.csv
-  pbaudit margins town.pb --groups --satisfaction count > groups.csv";
+  pbaudit margins town.pb --groups --satisfaction count > groups.csv
+  pbaudit margins town.pb town.prices.csv --json";
 
 /// What `tidy` prints.
 pub(crate) const TIDY_NOTES: &str = "\

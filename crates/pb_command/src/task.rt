@@ -58,7 +58,7 @@ pub struct Inputs {
     pub certificate: String,
     /// The outcome file. Where none is named, the outcome is the election's own.
     pub outcome: Option<String>,
-    /// Whether the answer is to be a JSON object. It never is for a page, a table of margins or a canonical text.
+    /// Whether the answer is to be a JSON object. It never is for a page or a canonical text.
     pub json: bool,
 }
 

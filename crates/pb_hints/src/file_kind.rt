@@ -1,4 +1,16 @@
 //! The kinds of files, and the records that each has.
+ghost use Rattle.std.specs.Prelude.{◌≡◌, ◌∷◌, [], false, IfOk};
+ghost use Rattle.csv.specs.Records.{fields_of};
+ghost use Rattle.pb_certificate.specs.Faults.{certificate_records};
+ghost use Rattle.pb_certificate.specs.Fields.{fields, same_fields};
+ghost use Rattle.pb_hints.specs.Kinds as spec;
+ghost use Rattle.pb_money.specs.Digits.{is_empty};
+ghost use Rattle.pb_records.specs.Records.{election_records};
+
+use csv::StringRecord;
+use pb_election::{Section, marker_of};
+use pb_records::{Cursor, Next, cell, is_blank_from};
+use std::alloc::{AllocError, Global};
 
 /// What a file is to be.
 #[derive(Clone, Copy, PartialEq, Eq)]
@@ -22,6 +34,18 @@ const FIRST_FIELDS: [(&str, FileKind); 5] = [
 ];
 
 impl FileKind {
+    /// What a file is by its first record that isn't blank: an election where that marks META, and an outcome file or a
+    /// certificate where it is the first record of one, as `pb-prices,1`. It is none of these where it is another, isn't
+    /// UTF-8 or is missing. What follows it is not looked at. An error means out of memory.
+    pub fn of_file(alloc: Global, bytes: &[u8]) -> Result<Option<FileKind>, AllocError>
+        ensures { IfOk result (λ kind. kind ≡ spec.kind_of bytes.now) }
+    {
+        if begins_election(alloc, bytes)? {
+            return Ok(Some(FileKind::Election));
+        }
+        kind_by_head(alloc, bytes)
+    }
+
     /// What such a file is called, with its article.
     pub(crate) fn name(self) -> &'static str {
         match self {
@@ -90,4 +114,60 @@ impl FileKind {
             FileKind::Outcome | FileKind::Election => "project,ID",
         }
     }
+}
+
+// The reader of records takes some 30 KB of stack, which a caller is to have back.
+#[inline(never)]
+fn begins_election(alloc: Global, bytes: &[u8]) -> Result<bool, AllocError>
+    ensures { IfOk result (λ begins. begins ≡ spec.begins_election (election_records bytes.now)) }
+{
+    let mut cursor = Cursor::open(alloc, bytes, b';');
+    match cursor.advance()? {
+        Next::Record => Ok(marks_meta(cursor.row())),
+        Next::NotText | Next::End => Ok(false),
+    }
+}
+
+#[inline(never)]
+fn kind_by_head(alloc: Global, bytes: &[u8]) -> Result<Option<FileKind>, AllocError>
+    ensures { IfOk result (λ kind. kind ≡ spec.kind_by_head (certificate_records bytes.now)) }
+{
+    let mut cursor = Cursor::open(alloc, bytes, b',');
+    match cursor.advance()? {
+        Next::Record => Ok(kind_named(cursor.row())),
+        Next::NotText | Next::End => Ok(None),
+    }
+}
+
+fn marks_meta(row: &StringRecord) -> bool
+    ensures { result ≡ spec.marks_meta (fields_of row.now) }
+{
+    matches!(marker_of(row), Some(Section::Meta))
+}
+
+fn kind_named(head: &StringRecord) -> Option<FileKind>
+    ensures { result ≡ spec.kind_named (fields_of head.now) }
+{
+    if is_pair(head, "pb-outcome", "1") {
+        return Some(FileKind::Outcome);
+    }
+    if is_pair(head, "pb-prices", "1") {
+        return Some(FileKind::Prices);
+    }
+    if is_pair(head, "pb-violation", "1") || is_pair(head, "pb-violation", "2") {
+        return Some(FileKind::Violation);
+    }
+    if is_pair(head, "pb-refutation", "1") {
+        return Some(FileKind::Refutation);
+    }
+    None
+}
+
+// Whether a record has these two fields, the second of which isn't empty, and no more.
+#[tactic(auto, using(crate::proofs::Pairs::two_fields))]
+fn is_pair(row: &StringRecord, first: &str, second: &str) -> bool
+    requires { is_empty second.now ≡ false }
+    ensures { result ≡ same_fields (fields (fields_of row.now)) (first.now ∷ second.now ∷ []) }
+{
+    cell(row, 0) == first && cell(row, 1) == second && is_blank_from(row, 2)
 }

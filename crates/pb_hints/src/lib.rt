@@ -1,5 +1,6 @@
 //! Hints: why a file is refused, in sentences for a person, and the lines of the file on which they are. No contract
-//! says what a hint says. Proved is that making one is safe and ends; the words are tested.
+//! says what a hint says. Proved is that making one is safe and ends; the words are tested. What a file is by its first
+//! record is proved too.
 #![tactic(auto)]
 
 mod causes;

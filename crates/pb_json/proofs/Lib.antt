@@ -1,3 +1,4 @@
+pub mod ProjectMargins
 pub mod Named
 pub mod Plain
 pub mod Pushes

@@ -1,16 +1,17 @@
 -- What this crate makes has no number with a fraction, and doesn't nest deep.
 use Rattle.std.proofs.Common.{◌≡◌, ◌+◌, ◌≤◌, ℕ, Bool, true, false, List, [], ◌∷◌, refl, arith}
 use Rattle.std.specs.Prelude.{codes, nat_le, nat_lt, not, Option, Some, None, map, option_map}
-use Rattle.std.specs.List.{AllByRecursion}
+use Rattle.std.specs.List.{AllByRecursion, zip}
 use Rattle.serde_json.specs.Data.{Data, items_depth}
 use Rattle.serde_json.specs.Read.{max_depth}
 use Rattle.serde_json.specs.View.{items_of}
 use Rattle.serde_json.specs.Written.{items_have_float}
-use Rattle.pb_records.proofs.Each.{all-append, all-if}
+use Rattle.pb_records.proofs.Each.{all-append, all-every, all-if, all-map}
 use Rattle.pb_records.specs.Records.{Text}
-use Rattle.pb_election.specs.Instance.{Instance, id_of}
+use Rattle.pb_election.specs.Instance.{Instance, all_projects, id_of}
 use Rattle.pb_election.specs.declared.columns.UnusedColumns.{UnusedColumns}
 use Rattle.pb_certificate.specs.declared.violations.measure.Measure.{Measure}
+use Rattle.pb_cohesion.specs.Failed.{Failed, refutation_failed, short_failed, violation_failed}
 use Rattle.pb_cohesion.specs.Shown.{first_short, shown}
 use Rattle.pb_cohesion.specs.declared.GroupFigures.{GroupFigures}
 use Rattle.pb_cohesion.specs.declared.MisplacedRows.{MisplacedRows}
@@ -21,12 +22,14 @@ use Rattle.pb_cohesion.specs.declared.RefutationVerdict.TheVariants as refutatio
 use Rattle.pb_cohesion.specs.declared.ViolationFindings.{ViolationFindings}
 use Rattle.pb_cohesion.specs.declared.ViolationVerdict.{ViolationVerdict}
 use Rattle.pb_cohesion.specs.declared.ViolationVerdict.TheVariants as violation_verdict
+use Rattle.pb_price.specs.Told.{price_failed}
 use Rattle.pb_price.specs.declared.Comparison.{Comparison}
 use Rattle.pb_input.specs.declared.InputRefusal.{InputRefusal}
 use Rattle.pb_price.specs.declared.Finding.{Finding}
 use Rattle.pb_price.specs.declared.Findings.{Findings}
 use Rattle.pb_cohesion.specs.declared.Mode.{Mode}
 use Rattle.pb_price.specs.declared.PaymentFinding.{PaymentFinding}
+use Rattle.pb_price.specs.declared.ProjectMargins.{ProjectMargins}
 use Rattle.pb_price.specs.declared.Verdict.{Verdict}
 use Rattle.pb_price.specs.declared.nearest.NearestGroup.{NearestGroup}
 use Rattle.pb_price.specs.declared.Verdict.TheVariants as verdict
@@ -36,8 +39,9 @@ use Rattle.pb_json.specs.Folders.{entry_json, total_json}
 use Rattle.pb_json.specs.Elections.{column, columns, columns_json, election_json, funded, outcome_json, read_json}
 use Rattle.pb_json.specs.Texts.{IsPlain, most_nested}
 use Rattle.pb_json.specs.Members.{amount, balance, count, list, or_null, text}
-use Rattle.pb_json.specs.Places.{at_both, at_project, failed_json, nowhere, pair_or_null, place_at, place_json, place_or_null, project_json, voter_json}
+use Rattle.pb_json.specs.Places.{at_both, failed_json, nowhere, pair_or_null, place_at, place_json, place_or_null, project_json, voter_json}
 use Rattle.pb_json.specs.Groups as groups
+use Rattle.pb_json.specs.Margins as margins
 use Rattle.pb_json.specs.Prices as prices
 use Rattle.pb_json.specs.Refutations as refutations
 use Rattle.pb_json.specs.Violations as violations
@@ -79,8 +83,8 @@ place-or-null-plain e place = or-null-plain 1 (place_json e) place (place-plain 
 pair-or-null-plain : (e : Instance) (pair : Option (ℕ × ℕ)) → IsPlain 1 (pair_or_null e pair)
 pair-or-null-plain e pair = or-null-plain 1 (λ q. place_json e (at_both q)) pair (λ q. place-plain e (at_both q))
 
-failed-plain : (e : Instance) (name : Text) (p : Place) → IsPlain 1 (failed_json e name p)
-failed-plain e name p = grind (arith, project-plain e p.project, voter-plain p.voter)
+failed-plain : (e : Instance) (f : Failed) → IsPlain 1 (failed_json e f)
+failed-plain e f = grind (arith, project-plain e f.project, voter-plain f.voter)
 
 -- elections
 column-plain : (name : Text) (has : Bool) → AllByRecursion (IsPlain 0) (column name has)
@@ -150,7 +154,7 @@ conditions-plain m e f =
 
 prices-failed-plain : (e : Instance) (v : Verdict) → IsPlain 1 (prices.first_failed e v)
 prices-failed-plain e verdict.Supported = leaf 1
-prices-failed-plain e (verdict.Failed f) = failed-plain e (prices.failure_name f) (prices.failure_place f)
+prices-failed-plain e (verdict.Failed f) = failed-plain e (price_failed f)
 
 over-plain : (e : Instance) (d : Data) → IsPlain 0 d → IsPlain 1 (groups.over_voters e d)
 over-plain e d h = grind arith
@@ -184,7 +188,7 @@ violation-tests-plain e f = grind (arith, v1-plain f, v2-plain e f.unapproved, v
 
 violation-failed-plain : (e : Instance) (v : ViolationVerdict) → IsPlain 1 (violations.first_failed e v)
 violation-failed-plain e violation_verdict.Violation = leaf 1
-violation-failed-plain e (violation_verdict.Failed f) = failed-plain e (violations.failure_name f) (violations.failure_place f)
+violation-failed-plain e (violation_verdict.Failed f) = failed-plain e (violation_failed f)
 
 pub violation_is_plain : (m : Measure) (e : Instance) (w : List Bool) (v : ViolationVerdict) (f : ViolationFindings)
     → IsPlain 4 (violations.violation_json m e w v f)
@@ -215,7 +219,7 @@ refutation-failed-plain e refutation_verdict.Unpriceable = leaf 1
 refutation-failed-plain e refutation_verdict.UnpriceableUnderCover = leaf 1
 refutation-failed-plain e refutation_verdict.UnpriceableStable = leaf 1
 refutation-failed-plain e refutation_verdict.UnpriceableStableUnderCover = leaf 1
-refutation-failed-plain e (refutation_verdict.Failed f) = failed-plain e (refutations.failure_name f) (refutations.failure_place f)
+refutation-failed-plain e (refutation_verdict.Failed f) = failed-plain e (refutation_failed f)
 
 pub refutation_is_plain : (e : Instance) (w : List Bool) (v : RefutationVerdict) (f : RefutationFindings)
     → IsPlain 4 (refutations.refutation_json e w v f)
@@ -227,13 +231,35 @@ group-plain : (e : Instance) (x : GroupFigures) → IsPlain 2 (groups.group_json
 group-plain e x = grind (arith, over-plain e)
 
 short-plain : (e : Instance) (x : Option GroupFigures) → IsPlain 1 (groups.failed_groups e x)
-short-plain e x = or-null-plain 1 _ x (λ x. failed-plain e (codes "EJR+") (at_project x.project))
+short-plain e x = or-null-plain 1 _ x (λ x. failed-plain e (short_failed x.project))
 
 pub groups_are_plain : (m : Measure) (e : Instance) (w : List Bool) (xs : List GroupFigures)
     → IsPlain 4 (groups.groups_json m e w xs)
 groups_are_plain m e w xs =
     let group = or-null-plain 2 (groups.group_json e) (shown xs) (group-plain e) in
     let short = short-plain e (first_short xs) in grind (arith, election-plain e, outcome-plain e w)
+
+-- margins
+each-plain : {A : Type 0} (k : ℕ) (told : A → Data) (xs : List A) → ((x : A) → IsPlain k (told x))
+    → AllByRecursion (IsPlain k) (map told xs)
+each-plain k told xs each = all-map (IsPlain k) told xs (all-every (λ x. IsPlain k (told x)) xs each)
+
+margin-plain : (e : Instance) (q : ℕ × ProjectMargins) → IsPlain 1 (margins.margin_json e q)
+margin-plain e q = grind (arith, project-plain e (Some q.0))
+
+projects-plain : (e : Instance) (ms : List ProjectMargins) → IsPlain 2 (margins.projects_json e ms)
+projects-plain e ms = list-plain 1 _ (each-plain 1 (margins.margin_json e) (zip (all_projects e) ms) (margin-plain e))
+
+pub margins_are_plain : (e : Instance) (w : List Bool) (grains_per_unit : ℕ) (ms : List ProjectMargins)
+    → IsPlain 4 (margins.margins_json e w grains_per_unit ms)
+margins_are_plain e w grains_per_unit ms = grind (arith, election-plain e, outcome-plain e w, projects-plain e ms)
+
+each-group-plain : (e : Instance) (xs : List GroupFigures) → IsPlain 3 (margins.each_group_json e xs)
+each-group-plain e xs = list-plain 2 _ (each-plain 2 (groups.group_json e) xs (group-plain e))
+
+pub group_margins_are_plain : (m : Measure) (e : Instance) (w : List Bool) (xs : List GroupFigures)
+    → IsPlain 4 (margins.group_margins_json m e w xs)
+group_margins_are_plain m e w xs = grind (arith, election-plain e, outcome-plain e w, each-group-plain e xs)
 
 -- both, and refusals
 pub both_are_plain : (all : Bool) (p v : Data) → IsPlain 4 p → IsPlain 4 v → IsPlain 5 (both_json all p v)
@@ -252,12 +278,8 @@ pub total_is_plain : (elections yeses noes refused : ℕ)
 total_is_plain elections yeses noes refused = grind arith
 
 -- what stands beside an answer
-each-text : (texts : List Text) → AllByRecursion (IsPlain 0) (map text texts)
-each-text [] = tt
-each-text (s ∷ ss) = (leaf 0, each-text ss)
-
 texts-plain : (texts : List Text) → IsPlain 1 (texts_json texts)
-texts-plain texts = list-plain 0 (map text texts) (each-text texts)
+texts-plain texts = list-plain 0 (map text texts) (each-plain 0 text texts (λ s. leaf 0))
 
 hint-plain : (line : Option ℕ) (sentences : List Text) → IsPlain 2 (hint_json line sentences)
 hint-plain line [] = leaf 2

@@ -4,12 +4,13 @@ use Rattle.std.specs.Prelude.{◌*◌, ◌-ℤ◌, Bool, true, false, pos, List,
 use Rattle.serde_json.specs.Data.{Data}
 use Rattle.pb_election.specs.Instance.{Instance, IsProject, cost_of, voters}
 use Rattle.pb_certificate.specs.declared.violations.measure.Measure.{Measure}
+use Rattle.pb_cohesion.specs.Failed.{short_failed}
 use Rattle.pb_cohesion.specs.Shown.{AreSmall, first_short, shown}
 use Rattle.pb_cohesion.specs.declared.GroupFigures.{GroupFigures}
 use Rattle.pb_price.specs.declared.nearest.NearestGroup.{NearestGroup}
 use Rattle.pb_json.specs.Elections.{election_json, outcome_json}
 use Rattle.pb_json.specs.Members.{amount, answer, balance, count, fields, or_null, text}
-use Rattle.pb_json.specs.Places.{at_project, failed_json, project_json}
+use Rattle.pb_json.specs.Places.{failed_json, project_json}
 use Rattle.pb_json.specs.Violations.{measure_word}
 
 -- a sum as a numerator over the number of all voters
@@ -57,7 +58,7 @@ nearest_json e g = fields (
     ∷ [])
 
 abbrev pub failed_groups : Instance → Option GroupFigures → Data
-failed_groups e x = or_null (λ x. failed_json e (codes "EJR+") (at_project x.project)) x
+failed_groups e x = or_null (λ x. failed_json e (short_failed x.project)) x
 
 abbrev pub is_yes : Option GroupFigures → Bool
 is_yes None = true

@@ -3,6 +3,7 @@ pub mod Places
 pub mod Elections
 pub mod Violations
 pub mod Groups
+pub mod Margins
 pub mod Prices
 pub mod Refutations
 pub mod Answers

@@ -2,7 +2,7 @@
 use Rattle.std.specs.Prelude.{ℕ, [], ◌∷◌, IfSome, Option, Some, None, codes}
 use Rattle.serde_json.specs.Data.{Data}
 use Rattle.pb_election.specs.Instance.{Instance, IsProject, id_of}
-use Rattle.pb_records.specs.Records.{Text}
+use Rattle.pb_cohesion.specs.Failed.{Failed}
 use Rattle.pb_json.specs.Members.{count, fields, or_null, text}
 use Rattle.pb_json.specs.declared.places.At.{At}
 use Rattle.pb_json.specs.declared.places.At.TheVariants.{Voter, Project}
@@ -48,10 +48,10 @@ place_or_null e place = or_null (place_json e) place
 abbrev pub pair_or_null : Instance → Option (ℕ × ℕ) → Data
 pair_or_null e pair = or_null (λ q. place_json e (at_both q)) pair
 
--- the condition or the test of this name, which is false there
-abbrev pub failed_json : Instance → Text → Place → Data
-failed_json e name p = fields (
-    (codes "name", text name)
-    ∷ (codes "project", project_json e p.project)
-    ∷ (codes "voter", voter_json p.voter)
+-- a condition or a test that fails, by its name, and where it does
+abbrev pub failed_json : Instance → Failed → Data
+failed_json e f = fields (
+    (codes "name", text f.name)
+    ∷ (codes "project", project_json e f.project)
+    ∷ (codes "voter", voter_json f.voter)
     ∷ [])

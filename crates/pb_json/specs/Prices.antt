@@ -3,9 +3,8 @@ use Rattle.std.specs.Prelude.{◌==◌, if◌then◌else◌, nat_le, nat_lt, not
 use Rattle.serde_json.specs.Data.{Data, null}
 use Rattle.pb_election.specs.Instance.{Instance, IsProject}
 use Rattle.pb_price.specs.OnGroups.{on_groups}
+use Rattle.pb_price.specs.Told.{price_failed}
 use Rattle.pb_price.specs.declared.Comparison.{Comparison}
-use Rattle.pb_price.specs.declared.Failure.{Failure}
-use Rattle.pb_price.specs.declared.Failure.TheVariants as failure
 use Rattle.pb_price.specs.declared.Finding.{Finding}
 use Rattle.pb_price.specs.declared.Findings.{Findings}
 use Rattle.pb_cohesion.specs.declared.Mode.{Mode}
@@ -22,7 +21,7 @@ use Rattle.pb_json.specs.Members.{amount, answer, balance, count, fields, flag, 
 use Rattle.pb_json.specs.declared.places.At.{At}
 use Rattle.pb_json.specs.declared.places.At.TheVariants.{Voter, Project}
 use Rattle.pb_json.specs.declared.places.Place.{Place}
-use Rattle.pb_json.specs.Places.{NamesProject, at_both, at_project, at_voter, failed_json, nowhere, pair_or_null, place_at, place_or_null, project_json, voter_json}
+use Rattle.pb_json.specs.Places.{NamesProject, failed_json, nowhere, pair_or_null, place_at, place_or_null, project_json, voter_json}
 
 -- two sums that a condition compares, and where
 abbrev pub sums_json : Instance → Data → ℕ → Place → Data
@@ -101,36 +100,14 @@ conditions m e f = outcome_conditions m e f ++ payment_conditions e f ++ support
 abbrev pub conditions_json : Mode → Instance → Findings → Data
 conditions_json m e f = list (conditions m e f)
 
--- the first condition that is false, and where
-abbrev pub failure_name : Failure → Text
-failure_name failure.Feasible = codes "Feasible"
-failure_name (failure.Exhaustive j) = codes "Exhaustive"
-failure_name failure.Cover = codes "Cover"
-failure_name (failure.C1 i j) = codes "C1"
-failure_name (failure.C2 i) = codes "C2"
-failure_name (failure.C3 j) = codes "C3"
-failure_name (failure.C4 j) = codes "C4"
-failure_name (failure.C5 j) = codes "C5"
-failure_name (failure.S5 j) = codes "S5"
-
-abbrev pub failure_place : Failure → Place
-failure_place failure.Feasible = nowhere
-failure_place (failure.Exhaustive j) = at_project j
-failure_place failure.Cover = nowhere
-failure_place (failure.C1 i j) = at_both (i, j)
-failure_place (failure.C2 i) = at_voter i
-failure_place (failure.C3 j) = at_project j
-failure_place (failure.C4 j) = at_project j
-failure_place (failure.C5 j) = at_project j
-failure_place (failure.S5 j) = at_project j
-
 abbrev pub is_yes : Verdict → Bool
 is_yes verdict.Supported = true
 is_yes (verdict.Failed f) = false
 
+-- the first condition that is false, and where
 abbrev pub first_failed : Instance → Verdict → Data
 first_failed e verdict.Supported = null
-first_failed e (verdict.Failed f) = failed_json e (failure_name f) (failure_place f)
+first_failed e (verdict.Failed f) = failed_json e (price_failed f)
 
 -- what a yes says of groups
 abbrev pub groups_word : OnGroups → Text
@@ -195,11 +172,7 @@ amount_members f =
     ∷ (codes "voter_budget", amount f.voter_budget)
     ∷ []
 
--- the projects that a verdict and findings name are those of the election
-abbrev pub VerdictNamesProject : Instance → Verdict → Type 0
-VerdictNamesProject e verdict.Supported = Unit {0}
-VerdictNamesProject e (verdict.Failed f) = NamesProject e (failure_place f)
-
+-- the projects that findings name are those of the election
 pub record FindingNamesProjects (e : Instance) (at : At) (f : Finding) : Type 0 where
   pub first : IfSome f.first (λ x. NamesProject e (place_at at x))
   pub shown : IfSome f.shown (λ m. NamesProject e (place_at at m.at))

@@ -2,17 +2,15 @@
 use Rattle.std.specs.Prelude.{◌==◌, ◌||◌, ◌&&◌, nat_le, nat_lt, Bool, true, false, ℕ, List, [], ◌∷◌, IfSome, Option, Some, None, codes, is_some, unwrap_or}
 use Rattle.serde_json.specs.Data.{Data, null}
 use Rattle.pb_election.specs.Instance.{Instance, IsProject}
+use Rattle.pb_cohesion.specs.Failed.{refutation_failed}
 use Rattle.pb_cohesion.specs.declared.MisplacedRows.{MisplacedRows}
-use Rattle.pb_cohesion.specs.declared.RefutationFailure.{RefutationFailure}
-use Rattle.pb_cohesion.specs.declared.RefutationFailure.TheVariants.{U1, U2, U3}
 use Rattle.pb_cohesion.specs.declared.RefutationFindings.{RefutationFindings}
 use Rattle.pb_cohesion.specs.declared.RefutationVerdict.{RefutationVerdict}
 use Rattle.pb_cohesion.specs.declared.RefutationVerdict.TheVariants as verdict
 use Rattle.pb_records.specs.Records.{Text}
 use Rattle.pb_json.specs.Elections.{election_json, outcome_json}
 use Rattle.pb_json.specs.Members.{amount, answer, count, fields, flag, list, or_null, text}
-use Rattle.pb_json.specs.Places.{NamesProject, at_project, failed_json, nowhere, project_json}
-use Rattle.pb_json.specs.declared.places.Place.{Place}
+use Rattle.pb_json.specs.Places.{failed_json, project_json}
 
 -- U1: each row fits whether its project is funded
 abbrev pub row_json : Instance → ℕ → Data
@@ -56,17 +54,6 @@ tests e f = u1_json e f.misplaced ∷ u2_json f ∷ u3_json f ∷ []
 abbrev pub tests_json : Instance → RefutationFindings → Data
 tests_json e f = list (tests e f)
 
--- the first test that fails, and where
-abbrev pub failure_name : RefutationFailure → Text
-failure_name (U1 j) = codes "U1"
-failure_name U2 = codes "U2"
-failure_name U3 = codes "U3"
-
-abbrev pub failure_place : RefutationFailure → Place
-failure_place (U1 j) = at_project j
-failure_place U2 = nowhere
-failure_place U3 = nowhere
-
 -- what a refutation proves
 abbrev pub proved : RefutationVerdict → Option Text
 proved verdict.Unpriceable = Some (codes "unpriceable")
@@ -82,12 +69,13 @@ is_yes verdict.UnpriceableStable = true
 is_yes verdict.UnpriceableStableUnderCover = true
 is_yes (verdict.Failed f) = false
 
+-- the first test that fails, and where
 abbrev pub first_failed : Instance → RefutationVerdict → Data
 first_failed e verdict.Unpriceable = null
 first_failed e verdict.UnpriceableUnderCover = null
 first_failed e verdict.UnpriceableStable = null
 first_failed e verdict.UnpriceableStableUnderCover = null
-first_failed e (verdict.Failed f) = failed_json e (failure_name f) (failure_place f)
+first_failed e (verdict.Failed f) = failed_json e (refutation_failed f)
 
 -- with whether stable prices are asked about
 abbrev pub refutation_json : Instance → List Bool → RefutationVerdict → RefutationFindings → Data
@@ -103,13 +91,6 @@ refutation_json e w v f = fields (
     ∷ (codes "version", count 1)
     ∷ [])
 
--- the projects that a verdict and findings name are those of the election
-abbrev pub VerdictNamesProject : Instance → RefutationVerdict → Type 0
-VerdictNamesProject e verdict.Unpriceable = Unit {0}
-VerdictNamesProject e verdict.UnpriceableUnderCover = Unit {0}
-VerdictNamesProject e verdict.UnpriceableStable = Unit {0}
-VerdictNamesProject e verdict.UnpriceableStableUnderCover = Unit {0}
-VerdictNamesProject e (verdict.Failed f) = NamesProject e (failure_place f)
-
+-- the project that findings name is one of the election
 abbrev pub FindingsNameProject : Instance → RefutationFindings → Type 0
 FindingsNameProject e f = IfSome f.misplaced.first (IsProject e)

@@ -4,17 +4,15 @@ use Rattle.serde_json.specs.Data.{Data, null}
 use Rattle.pb_election.specs.Instance.{Instance, IsProject, voters}
 use Rattle.pb_certificate.specs.declared.violations.measure.Measure.{Measure}
 use Rattle.pb_certificate.specs.declared.violations.measure.Measure.TheVariants.{ByCount, ByCost}
+use Rattle.pb_cohesion.specs.Failed.{violation_failed}
 use Rattle.pb_cohesion.specs.declared.MissingApprovals.{MissingApprovals}
-use Rattle.pb_cohesion.specs.declared.ViolationFailure.{ViolationFailure}
-use Rattle.pb_cohesion.specs.declared.ViolationFailure.TheVariants.{V1, V2, V3, V4}
 use Rattle.pb_cohesion.specs.declared.ViolationFindings.{ViolationFindings}
 use Rattle.pb_cohesion.specs.declared.ViolationVerdict.{ViolationVerdict}
 use Rattle.pb_cohesion.specs.declared.ViolationVerdict.TheVariants as verdict
 use Rattle.pb_records.specs.Records.{Text}
 use Rattle.pb_json.specs.Elections.{election_json, outcome_json}
 use Rattle.pb_json.specs.Members.{amount, answer, count, fields, flag, list, or_null, text}
-use Rattle.pb_json.specs.Places.{NamesProject, at_both, at_voter, failed_json, nowhere, pair_or_null}
-use Rattle.pb_json.specs.declared.places.Place.{Place}
+use Rattle.pb_json.specs.Places.{failed_json, pair_or_null}
 
 -- V1: there are members
 abbrev pub v1_json : ViolationFindings → Data
@@ -69,26 +67,14 @@ tests e f = v1_json f ∷ v2_json e f.unapproved ∷ v3_json e f ∷ v4_json f �
 abbrev pub tests_json : Instance → ViolationFindings → Data
 tests_json e f = list (tests e f)
 
--- the first test that fails, and where
-abbrev pub failure_name : ViolationFailure → Text
-failure_name V1 = codes "V1"
-failure_name (V2 i j) = codes "V2"
-failure_name V3 = codes "V3"
-failure_name (V4 i) = codes "V4"
-
-abbrev pub failure_place : ViolationFailure → Place
-failure_place V1 = nowhere
-failure_place (V2 i j) = at_both (i, j)
-failure_place V3 = nowhere
-failure_place (V4 i) = at_voter i
-
 abbrev pub is_yes : ViolationVerdict → Bool
 is_yes verdict.Violation = true
 is_yes (verdict.Failed f) = false
 
+-- the first test that fails, and where
 abbrev pub first_failed : Instance → ViolationVerdict → Data
 first_failed e verdict.Violation = null
-first_failed e (verdict.Failed f) = failed_json e (failure_name f) (failure_place f)
+first_failed e (verdict.Failed f) = failed_json e (violation_failed f)
 
 abbrev pub measure_word : Measure → Text
 measure_word ByCount = codes "count"
@@ -106,10 +92,6 @@ violation_json measure e w v f = fields (
     ∷ (codes "version", count 1)
     ∷ [])
 
--- the projects that a verdict and findings name are those of the election
-abbrev pub VerdictNamesProject : Instance → ViolationVerdict → Type 0
-VerdictNamesProject e verdict.Violation = Unit {0}
-VerdictNamesProject e (verdict.Failed f) = NamesProject e (failure_place f)
-
+-- the project that findings name is one of the election
 abbrev pub FindingsNameProject : Instance → ViolationFindings → Type 0
 FindingsNameProject e f = IfSome f.unapproved.first (λ q. IsProject e q.1)

@@ -7,10 +7,10 @@ ghost use Rattle.pb_json.specs.Members.{amount, or_null};
 
 use crate::elections::{election_json, outcome_json};
 use crate::members::{amount, answer, balance};
-use crate::places::{Place, failed_json, project_json};
+use crate::places::{failed_json, project_json};
 use crate::violations::measure_word;
 use pb_certificate::Measure;
-use pb_cohesion::{GroupFigures, first_short, shown_of};
+use pb_cohesion::{FailedAt, GroupFigures, first_short, shown_of};
 use pb_election::{DecidedElection, Election};
 use pb_price::NearestGroup;
 use serde_json::{Value, json};
@@ -62,7 +62,7 @@ fn failed_or_null(
     ensures { IfOk result (λ v. view v ≡ spec.failed_groups election.now short) }
 {
     match short {
-        Some(first) => failed_json(alloc, election, "EJR+", Place::at_project(first.project)),
+        Some(first) => failed_json(alloc, election, &FailedAt::short_for(first.project)),
         None => Ok(Value::Null),
     }
 }
@@ -82,7 +82,12 @@ fn group_or_null(
     }
 }
 
-fn group_json(alloc: Global, election: &Election, group: &GroupFigures) -> Result<Value, AllocError>
+/// The figures of a group, which are to be of a project of this election.
+pub(crate) fn group_json(
+    alloc: Global,
+    election: &Election,
+    group: &GroupFigures,
+) -> Result<Value, AllocError>
     requires { spec.CanBeTold election.now group.now }
     ensures { IfOk result (λ v. view v ≡ spec.group_json election.now group.now) }
 {

@@ -1,9 +1,11 @@
 //! Where a condition or a test is false.
 ghost use Rattle.std.specs.Prelude.{◌≡◌, IfOk, IfSome, option_map};
 ghost use Rattle.serde_json.specs.View.{view};
+ghost use Rattle.pb_cohesion.specs.Failed.{NamesProject};
 ghost use Rattle.pb_election.specs.Instance.{IsProject};
 ghost use Rattle.pb_json.specs.Places as spec;
 
+use pb_cohesion::FailedAt;
 use pb_election::Election;
 use serde_json::{Value, json};
 use std::alloc::{AllocError, Global};
@@ -152,19 +154,18 @@ pub(crate) fn pair_or_null(
     }
 }
 
-/// The condition or the test of this name, which is false at a place.
+/// A condition or a test that fails, by its name, and where it does.
 pub(crate) fn failed_json(
     alloc: Global,
     election: &Election,
-    name: &str,
-    place: Place,
+    failed: &FailedAt,
 ) -> Result<Value, AllocError>
-    requires { spec.NamesProject election.now place }
-    ensures { IfOk result (λ v. view v ≡ spec.failed_json election.now name.now place) }
+    requires { NamesProject election.now failed.now }
+    ensures { IfOk result (λ v. view v ≡ spec.failed_json election.now failed.now) }
 {
     json!(in alloc; {
-        "name": name,
-        "project": project_json(alloc, election, place.project)?,
-        "voter": voter_json(place.voter),
+        "name": failed.name,
+        "project": project_json(alloc, election, failed.project)?,
+        "voter": voter_json(failed.voter),
     })
 }

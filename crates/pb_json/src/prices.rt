@@ -1,6 +1,7 @@
 //! The answer on prices.
 ghost use Rattle.std.specs.Prelude.{◌≡◌, IfOk, IfSome, OnOk, option_map};
 ghost use Rattle.pb_election.specs.Instance.{IsProject};
+ghost use Rattle.pb_price.specs.Told.{PricesNameProject};
 ghost use Rattle.serde_json.specs.View.{members_view, view};
 ghost use Rattle.pb_json.specs.Members.{with_all};
 ghost use Rattle.pb_json.specs.Prices as spec;
@@ -9,9 +10,9 @@ use crate::conditions::conditions_json;
 use crate::elections::{election_json, outcome_json};
 use crate::groups::nearest_or_null;
 use crate::members::{amount, answer, text_or_null};
-use crate::places::{Place, failed_json};
+use crate::places::failed_json;
 use pb_election::{DecidedElection, Election};
-use pb_price::{Failure, Findings, Mode, NearestGroup, OnGroups, Verdict};
+use pb_price::{Findings, Mode, NearestGroup, OnGroups, Verdict};
 use serde_json::{Map, Value, json, put};
 use std::alloc::{AllocError, Global};
 
@@ -27,7 +28,7 @@ pub fn prices_json(
     findings: &Findings,
     nearest: Option<NearestGroup>,
 ) -> Result<Value, AllocError>
-    requires verdict { spec.VerdictNamesProject (decided.now).election verdict }
+    requires verdict { PricesNameProject (decided.now).election verdict }
     requires findings { spec.FindingsNameProjects (decided.now).election findings.now }
     requires nearest { IfSome nearest (λ g. IsProject (decided.now).election g.project) }
     ensures { IfOk result (λ v. view v ≡ spec.prices_json mode (decided.now).election (decided.now).outcome.marks verdict findings.now nearest) }
@@ -53,7 +54,7 @@ fn put_verdict(
     verdict: Verdict,
     findings: &Findings,
 ) -> Result<(), AllocError>
-    requires { spec.VerdictNamesProject election.now verdict }
+    requires { PricesNameProject election.now verdict }
     ensures { OnOk result (members_view members.new.entries ≡ with_all (spec.verdict_members election.now mode verdict findings.now) (members_view members.old.entries)) }
 {
     let word = answer(is_yes(verdict));
@@ -125,48 +126,12 @@ fn is_yes(verdict: Verdict) -> bool
 
 // The first condition that is false, or null.
 fn first_failed(alloc: Global, election: &Election, verdict: Verdict) -> Result<Value, AllocError>
-    requires { spec.VerdictNamesProject election.now verdict }
+    requires { PricesNameProject election.now verdict }
     ensures { IfOk result (λ v. view v ≡ spec.first_failed election.now verdict) }
 {
     match verdict {
         Verdict::Supported => Ok(Value::Null),
-        Verdict::Failed(failure) => failed_json(
-            alloc,
-            election,
-            failure_name(failure),
-            failure_place(failure),
-        ),
-    }
-}
-
-fn failure_name(failure: Failure) -> &'static str
-    ensures { result.now ≡ spec.failure_name failure }
-{
-    match failure {
-        Failure::Feasible => "Feasible",
-        Failure::Exhaustive(_) => "Exhaustive",
-        Failure::Cover => "Cover",
-        Failure::C1(_, _) => "C1",
-        Failure::C2(_) => "C2",
-        Failure::C3(_) => "C3",
-        Failure::C4(_) => "C4",
-        Failure::C5(_) => "C5",
-        Failure::S5(_) => "S5",
-    }
-}
-
-fn failure_place(failure: Failure) -> Place
-    ensures { result ≡ spec.failure_place failure }
-{
-    match failure {
-        Failure::Feasible | Failure::Cover => Place::nowhere(),
-        Failure::C1(i, j) => Place::at_both(i, j),
-        Failure::C2(i) => Place::at_voter(i),
-        Failure::Exhaustive(j)
-        | Failure::C3(j)
-        | Failure::C4(j)
-        | Failure::C5(j)
-        | Failure::S5(j) => Place::at_project(j),
+        Verdict::Failed(failure) => failed_json(alloc, election, &failure.failed_at()),
     }
 }
 

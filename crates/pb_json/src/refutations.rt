@@ -1,14 +1,15 @@
 //! The answer on a refutation.
 ghost use Rattle.std.specs.Prelude.{◌≡◌, IfOk, IfSome, option_map};
 ghost use Rattle.serde_json.specs.View.{view};
+ghost use Rattle.pb_cohesion.specs.Failed.{RefutationNamesProject};
 ghost use Rattle.pb_election.specs.Instance.{IsProject};
 ghost use Rattle.pb_json.specs.Members.{or_null};
 ghost use Rattle.pb_json.specs.Refutations as spec;
 
 use crate::elections::{election_json, outcome_json};
 use crate::members::{amount, amount_or_null, answer, push_value, text_or_null};
-use crate::places::{Place, failed_json, project_json};
-use pb_cohesion::{MisplacedRows, RefutationFailure, RefutationFindings, RefutationVerdict};
+use crate::places::{failed_json, project_json};
+use pb_cohesion::{MisplacedRows, RefutationFindings, RefutationVerdict};
 use pb_election::{DecidedElection, Election};
 use serde_json::{Value, json};
 use std::alloc::{AllocError, Global};
@@ -21,7 +22,7 @@ pub fn refutation_json(
     verdict: RefutationVerdict,
     findings: &RefutationFindings,
 ) -> Result<Value, AllocError>
-    requires verdict { spec.VerdictNamesProject (decided.now).election verdict }
+    requires verdict { RefutationNamesProject (decided.now).election verdict }
     requires findings { spec.FindingsNameProject (decided.now).election findings.now }
     ensures { IfOk result (λ v. view v ≡ spec.refutation_json (decided.now).election (decided.now).outcome.marks verdict findings.now) }
 {
@@ -140,7 +141,7 @@ fn first_failed(
     election: &Election,
     verdict: RefutationVerdict,
 ) -> Result<Value, AllocError>
-    requires { spec.VerdictNamesProject election.now verdict }
+    requires { RefutationNamesProject election.now verdict }
     ensures { IfOk result (λ v. view v ≡ spec.first_failed election.now verdict) }
 {
     match verdict {
@@ -148,30 +149,6 @@ fn first_failed(
         | RefutationVerdict::UnpriceableUnderCover
         | RefutationVerdict::UnpriceableStable
         | RefutationVerdict::UnpriceableStableUnderCover => Ok(Value::Null),
-        RefutationVerdict::Failed(failure) => failed_json(
-            alloc,
-            election,
-            failure_name(failure),
-            failure_place(failure),
-        ),
-    }
-}
-
-fn failure_name(failure: RefutationFailure) -> &'static str
-    ensures { result.now ≡ spec.failure_name failure }
-{
-    match failure {
-        RefutationFailure::U1(_) => "U1",
-        RefutationFailure::U2 => "U2",
-        RefutationFailure::U3 => "U3",
-    }
-}
-
-fn failure_place(failure: RefutationFailure) -> Place
-    ensures { result ≡ spec.failure_place failure }
-{
-    match failure {
-        RefutationFailure::U1(j) => Place::at_project(j),
-        RefutationFailure::U2 | RefutationFailure::U3 => Place::nowhere(),
+        RefutationVerdict::Failed(failure) => failed_json(alloc, election, &failure.failed_at()),
     }
 }

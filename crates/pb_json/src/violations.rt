@@ -1,6 +1,7 @@
 //! The answer on a violation certificate.
 ghost use Rattle.std.specs.Prelude.{◌≡◌, ◌≤◌, IfOk, IfSome};
 ghost use Rattle.serde_json.specs.View.{view};
+ghost use Rattle.pb_cohesion.specs.Failed.{ViolationNamesProject};
 ghost use Rattle.pb_election.specs.Instance.{IsProject};
 ghost use Rattle.pb_election.specs.Outcome.{most_total};
 ghost use Rattle.pb_json.specs.Members.{or_null};
@@ -8,9 +9,9 @@ ghost use Rattle.pb_json.specs.Violations as spec;
 
 use crate::elections::{election_json, outcome_json};
 use crate::members::{amount, answer, push_value};
-use crate::places::{Place, failed_json, pair_or_null};
+use crate::places::{failed_json, pair_or_null};
 use pb_certificate::Measure;
-use pb_cohesion::{MissingApprovals, ViolationFailure, ViolationFindings, ViolationVerdict};
+use pb_cohesion::{MissingApprovals, ViolationFindings, ViolationVerdict};
 use pb_election::{DecidedElection, Election};
 use serde_json::{Value, json};
 use std::alloc::{AllocError, Global};
@@ -24,7 +25,7 @@ pub fn violation_json(
     verdict: ViolationVerdict,
     findings: &ViolationFindings,
 ) -> Result<Value, AllocError>
-    requires verdict { spec.VerdictNamesProject (decided.now).election verdict }
+    requires verdict { ViolationNamesProject (decided.now).election verdict }
     requires findings { spec.FindingsNameProject (decided.now).election findings.now }
     requires cost { (findings.now).cost ≤ most_total }
     ensures { IfOk result (λ v. view v ≡ spec.violation_json measure (decided.now).election (decided.now).outcome.marks verdict findings.now) }
@@ -144,38 +145,12 @@ fn first_failed(
     election: &Election,
     verdict: ViolationVerdict,
 ) -> Result<Value, AllocError>
-    requires { spec.VerdictNamesProject election.now verdict }
+    requires { ViolationNamesProject election.now verdict }
     ensures { IfOk result (λ v. view v ≡ spec.first_failed election.now verdict) }
 {
     match verdict {
         ViolationVerdict::Violation => Ok(Value::Null),
-        ViolationVerdict::Failed(failure) => failed_json(
-            alloc,
-            election,
-            failure_name(failure),
-            failure_place(failure),
-        ),
-    }
-}
-
-fn failure_name(failure: ViolationFailure) -> &'static str
-    ensures { result.now ≡ spec.failure_name failure }
-{
-    match failure {
-        ViolationFailure::V1 => "V1",
-        ViolationFailure::V2(_, _) => "V2",
-        ViolationFailure::V3 => "V3",
-        ViolationFailure::V4(_) => "V4",
-    }
-}
-
-fn failure_place(failure: ViolationFailure) -> Place
-    ensures { result ≡ spec.failure_place failure }
-{
-    match failure {
-        ViolationFailure::V1 | ViolationFailure::V3 => Place::nowhere(),
-        ViolationFailure::V2(i, j) => Place::at_both(i, j),
-        ViolationFailure::V4(i) => Place::at_voter(i),
+        ViolationVerdict::Failed(failure) => failed_json(alloc, election, &failure.failed_at()),
     }
 }
 

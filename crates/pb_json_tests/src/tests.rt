@@ -4,6 +4,7 @@ mod common;
 mod elections;
 mod folders;
 mod groups;
+mod margins;
 mod prices;
 mod violations;
 mod weights;

@@ -1,23 +1,15 @@
 -- The page about groups on its inputs in their turn.
-use Rattle.std.proofs.Common.{◌≡◌, ◌∙◌, Bool, List, Option, ap, refl, subst, sym}
-use Rattle.std.specs.Prelude.{IfOk, IfSome, Ok, Err, Result, Some, None, map, string_bytes}
-use Rattle.pb_election.specs.Instance.{Instance, all_projects, cost_of, voters}
+use Rattle.std.proofs.Common.{◌≡◌, ◌∙◌, Bool, List, Option, refl, subst, sym}
+use Rattle.std.specs.Prelude.{IfSome, Ok, Err, Some, None}
+use Rattle.pb_election.specs.Instance.{Instance}
 use Rattle.pb_records.specs.Loading.{Delivery}
 use Rattle.pb_certificate.specs.declared.violations.measure.Measure.{Measure}
-use Rattle.pb_cohesion.specs.Closest.{AreAllFigures}
-use Rattle.pb_cohesion.specs.Outcome.{total}
-use Rattle.pb_cohesion.specs.Shown.{shown}
-use Rattle.pb_case.specs.Shown.{ShowsLine}
-use Rattle.pb_figures.specs.Told.{verdict_on_groups}
-use Rattle.pb_figures.specs.declared.short_groups.ShortFigures.{ShortFigures}
 use Rattle.pb_figures.specs.declared.told.CertificateFigures.{CertificateFigures}
-use Rattle.pb_figures.specs.declared.told.CertificateFigures.TheVariants as found
-use Rattle.pb_figures.specs.declared.told.Told.{Told}
+use Rattle.pb_page.specs.declared.telling.PageTold.{PageTold}
 use Rattle.pb_price_parts.specs.Rows.{ListsProjects}
 use Rattle.pb_reply.proofs.Groups.{groups-promise}
 use Rattle.pb_reply.specs.Inputs.{Stated, StatesElection}
 use Rattle.pb_reply.specs.Inside.Taking.{AuditsOutcome, Gives, IfTaken, or_refusal}
-use Rattle.pb_reply.specs.Lines.{groups_line}
 use Rattle.pb_reply.specs.Promises.{GroupsPromise}
 use Rattle.pb_reply.specs.Replies.{Answer, answer_of, refused}
 use Rattle.pb_reply.specs.Turns.{FileTurn, Turn}
@@ -25,9 +17,9 @@ use Rattle.pb_reply.specs.declared.status.Status.{Status}
 use Rattle.pb_reply.specs.declared.unanswered.Unanswered.{Unanswered}
 use Rattle.pb_reply.specs.declared.unanswered.Unanswered.TheVariants as unanswered
 use Rattle.pb_words.specs.declared.language.Language.{Language}
-use Rattle.pb_page.specs.Groups.{GroupsPageOnOutcome, IsGroupsPage, ReadsGroupsPage, TellsGroups}
+use Rattle.pb_page.specs.Groups.{GroupsPageOnOutcome, IsGroupsPage, ReadsGroupsPage}
 use Rattle.pb_page.specs.Sums.{files_of, sums_of}
-use Rattle.pb_page.specs.Taken.{RendersTold, status_of}
+use Rattle.pb_page.specs.Taken.{RendersTold, TellsOfGroups}
 
 pub groups-ended-at-election : (m : Measure) (l : Language) (election : Turn) (outcome : FileTurn) (why : Unanswered)
     → IfTaken {A = Instance} (Err why) (Gives StatesElection election) → outcome None
@@ -62,50 +54,30 @@ groups-ended-at-outcome m l election outcome d o e (unanswered.Refused r) delive
 }
 groups-ended-at-outcome m l election outcome d o e unanswered.Memory delivered states loaded taken = tt
 
--- what is told by the figures of all projects
-pub tells-groups : {E : Type 0} (m : Measure) (e : Instance) (w : List Bool) (r : Result Told E) (g : ShortFigures)
-    → IfOk r (λ t. ShowsLine (groups_line g.measure e (verdict_on_groups g)) (string_bytes t.line))
-    → IfOk r (λ t. t.found ≡ found.Groups g) → AreAllFigures m e w g.groups.items → g.measure ≡ m
-    → g.shown ≡ shown g.groups.items → g.costs.items ≡ map (cost_of e) (all_projects e) → g.limit ≡ e.limit
-    → g.funded ≡ total e w → g.voters ≡ voters e → IfOk r (TellsGroups m e w)
-tells-groups m e w (Err x) g line is groups by_measure is_shown costs limit sum all = tt
-tells-groups m e w (Ok t) g line is groups by_measure is_shown costs limit sum all = record {
-  figures = g;
-  found = is;
-  line = subst (λ (k : Measure). ShowsLine (groups_line k e (verdict_on_groups g)) (string_bytes t.line)) by_measure line;
-  groups = groups;
-  measure = by_measure;
-  shown = is_shown;
-  costs = costs;
-  limit = limit;
-  total = sum;
-  voters = all;
-}
-
 -- the page, by what is told and rendered
-groups-page : (m : Measure) (l : Language) (files : List Delivery) (e : Instance) (w : List Bool) (t : Told)
-    (a : Answer Status) → TellsGroups m e w t → t.style.language ≡ l → RendersTold t (sums_of files) a
+groups-page : (m : Measure) (l : Language) (files : List Delivery) (e : Instance) (w : List Bool) (t : PageTold)
+    (a : Answer Status) → TellsOfGroups m e w t → t.told.style.language ≡ l → RendersTold t (sums_of files) a
     → IsGroupsPage m l files e w a
 groups-page m l files e w t a tells language renders =
-    let ended = renders.status ∙ ap (status_of t.mode) tells.found in
+    let ended = renders.status ∙ tells.1 in
     record {
-      told = t;
+      told = t.told;
       pieces = renders.pieces;
-      tells = tells;
+      tells = tells.0;
       in_language = language;
       answers = renders.answers;
       sums = renders.has_sums;
-      projects = subst (λ (f : CertificateFigures). ListsProjects t.mode f renders.pieces) tells.found renders.projects;
+      projects = subst (λ (f : CertificateFigures). ListsProjects t.told.mode f renders.pieces) tells.0.found renders.projects;
       text = renders.text;
       status = ended;
-      promises = subst (λ (s : Status). GroupsPromise m s e w) (sym ended) (groups-promise m e w _ tells.groups);
+      promises = subst (λ (s : Status). GroupsPromise m s e w) (sym ended) (groups-promise m e w _ tells.0.groups);
     }
 
 -- both are accepted
 pub groups-answered : (m : Measure) (l : Language) (election : Turn) (outcome : FileTurn) (d : Delivery)
-    (o : Option Delivery) (e : Instance) (w : List Bool) (t : Told) (a : Answer Status) → election (Some d)
-    → StatesElection d (Ok e) → outcome (Some o) → AuditsOutcome e o (Ok w) → TellsGroups m e w t
-    → t.style.language ≡ l → RendersTold t (sums_of (files_of d o None)) a → ReadsGroupsPage m l election outcome a
+    (o : Option Delivery) (e : Instance) (w : List Bool) (t : PageTold) (a : Answer Status) → election (Some d)
+    → StatesElection d (Ok e) → outcome (Some o) → AuditsOutcome e o (Ok w) → TellsOfGroups m e w t
+    → t.told.style.language ≡ l → RendersTold t (sums_of (files_of d o None)) a → ReadsGroupsPage m l election outcome a
 groups-answered m l election outcome d o e w t a delivered states loaded taken tells language renders = record {
   of_election = d;
   of_outcome = o;

@@ -17,7 +17,7 @@ use Rattle.pb_page.specs.InTurn.{ReadsPage}
 use Rattle.pb_page.specs.Sums.{files_of, sums_of}
 use Rattle.pb_page.specs.Taken.{RendersTold, TellsCertificate}
 use Rattle.pb_words.specs.declared.language.Language.{Language}
-use Rattle.pb_figures.specs.declared.told.Told.{Told}
+use Rattle.pb_page.specs.declared.telling.PageTold.{PageTold}
 use Rattle.pb_page.proofs.Pages.{certificate-refused, election-refused, outcome-refused, page-answered}
 
 pub ended-at-election : (m : Mode) (l : Language) (election : Turn) (outcome : FileTurn)
@@ -58,7 +58,7 @@ ended-at-outcome m l election outcome certificate d o e unanswered.Memory delive
 pub ended-at-certificate : (m : Mode) (l : Language) (election : Turn) (outcome : FileTurn)
     (certificate : Turn) (d : Delivery) (o : Option Delivery) (f : Delivery) (e : Instance) (w : List Bool)
     (why : Unanswered) → election (Some d) → StatesElection d (Ok e) → outcome (Some o)
-    → AuditsOutcome e o (Ok w) → certificate (Some f) → IfTaken {A = Told} (Err why) (TellsCertificate m e w f)
+    → AuditsOutcome e o (Ok w) → certificate (Some f) → IfTaken {A = PageTold} (Err why) (TellsCertificate m e w f)
     → IfSome (or_refusal answer_of (Err why)) (ReadsPage m l election outcome certificate)
 ended-at-certificate m l election outcome certificate d o f e w (unanswered.Refused r) delivered given loaded taken read states =
     record {
@@ -77,9 +77,9 @@ ended-at-certificate m l election outcome certificate d o f e w unanswered.Memor
 
 -- all are accepted
 pub answered : (m : Mode) (l : Language) (election : Turn) (outcome : FileTurn) (certificate : Turn)
-    (d : Delivery) (o : Option Delivery) (f : Delivery) (e : Instance) (w : List Bool) (t : Told) (a : Answer Status)
+    (d : Delivery) (o : Option Delivery) (f : Delivery) (e : Instance) (w : List Bool) (t : PageTold) (a : Answer Status)
     → election (Some d) → StatesElection d (Ok e) → outcome (Some o)
-    → AuditsOutcome e o (Ok w) → certificate (Some f) → TellsCertificate m e w f (Ok t) → t.style.language ≡ l
+    → AuditsOutcome e o (Ok w) → certificate (Some f) → TellsCertificate m e w f (Ok t) → t.told.style.language ≡ l
     → RendersTold t (sums_of (files_of d o (Some f))) a → ReadsPage m l election outcome certificate a
 answered m l election outcome certificate d o f e w t a delivered given loaded taken read tells language renders =
     record {

@@ -1,27 +1,25 @@
 -- The answer on the inputs of a page.
-use Rattle.std.proofs.Common.{◌≡◌, ◌∙◌, ℕ, Bool, List, Option, ap, refl, subst, sym}
+use Rattle.std.proofs.Common.{◌≡◌, ◌∙◌, ℕ, Bool, List, Option, refl, subst, sym}
 use Rattle.std.specs.Prelude.{IfOk, IfSome, IsSomeAnd, Ok, Err, None, Some}
 use Rattle.pb_election.specs.Instance.{Instance}
 use Rattle.pb_records.specs.Loading.{Delivery}
 use Rattle.pb_cohesion.specs.declared.Mode.{Mode}
 use Rattle.pb_reply.specs.Inputs.{Stated, StatesElection}
-use Rattle.pb_reply.specs.Replies.{Answer, answer_of, price_status, refused, refutation_status, violation_status}
+use Rattle.pb_reply.specs.Replies.{Answer, answer_of, refused}
 use Rattle.pb_reply.specs.Inside.Taking.{AuditsOutcome}
 use Rattle.pb_input.specs.declared.InputRefusal.{InputRefusal}
 use Rattle.pb_reply.specs.declared.status.Status.{Status}
-use Rattle.pb_reply.specs.Certificates.{Certificate, OfPrices, OfRefutation, OfViolation, StatesCertificate, certificate_status}
+use Rattle.pb_reply.specs.Certificates.{StatesCertificate, certificate_status}
 use Rattle.pb_reply.specs.Promises.{CertificatePromises}
 use Rattle.pb_reply.proofs.Promises.{certificate_promises}
 use Rattle.pb_markup.specs.Pieces.{Piece, rendering}
 use Rattle.pb_markup.specs.Shown.{shows_of}
-use Rattle.pb_page.specs.Answers.{AnswersPage, HasAnswer, IsPage, PageOnOutcome, Tells}
+use Rattle.pb_page.specs.Answers.{AnswersPage, HasAnswer, IsPage, PageOnOutcome}
 use Rattle.pb_price_parts.specs.Rows.{ListsProjects}
 use Rattle.pb_page.specs.Sums.{HasInOrder, files_of, sums_of}
 use Rattle.pb_page.specs.Taken.{RendersTold, TellsCertificate}
-use Rattle.pb_page.specs.Taken.{status_of}
 use Rattle.pb_words.specs.declared.language.Language.{Language}
-use Rattle.pb_figures.specs.declared.told.CertificateFigures.{CertificateFigures}
-use Rattle.pb_figures.specs.declared.told.Told.{Told}
+use Rattle.pb_page.specs.declared.telling.PageTold.{PageTold}
 
 -- where the election is refused, the others may state anything
 abbrev pub election-refused : (m : Mode) (l : Language) (election : Delivery) (outcome : Option Delivery)
@@ -72,21 +70,11 @@ certificate-refused m l election outcome certificate e w r given taken states = 
       subst (λ (o : Stated (List Bool)). PageOnOutcome m l (files_of election outcome (Some certificate)) e o (Err r) (answer_of (refused r))) taken.is refl;
 }
 
--- the status of what is told is that of `explain`
-pub told-status : (m : Mode) (e : Instance) (w : List Bool) (c : Certificate) (t : Told) → Tells m e w c t
-    → status_of t.mode t.found ≡ certificate_status m e w c
-told-status m e w (OfPrices p) t tells =
-    ap (λ (f : CertificateFigures). status_of t.mode f) tells.found ∙ ap price_status tells.verdict
-told-status m e w (OfViolation v) t tells =
-    ap (λ (f : CertificateFigures). status_of t.mode f) tells.1 ∙ ap violation_status tells.2.verdict
-told-status m e w (OfRefutation r) t tells =
-    ap (λ (f : CertificateFigures). status_of t.mode f) tells.1 ∙ ap refutation_status tells.3.verdict
-
 -- all are accepted
 abbrev pub page-answered : (m : Mode) (l : Language) (election : Delivery) (outcome : Option Delivery)
-    (certificate : Delivery) (e : Instance) (w : List Bool) (t : Told) (a : Answer Status)
+    (certificate : Delivery) (e : Instance) (w : List Bool) (t : PageTold) (a : Answer Status)
     → StatesElection election (Ok e) → AuditsOutcome e outcome (Ok w)
-    → TellsCertificate m e w certificate (Ok t) → t.style.language ≡ l
+    → TellsCertificate m e w certificate (Ok t) → t.told.style.language ≡ l
     → RendersTold t (sums_of (files_of election outcome (Some certificate))) a
     → AnswersPage m l election outcome certificate a
 page-answered m l election outcome certificate e w t a given taken tells language renders = record {
@@ -104,11 +92,11 @@ page-answered m l election outcome certificate e w t a given taken tells languag
 }
   where
     ends : a.status ≡ certificate_status m e w tells.0
-    ends = renders.status ∙ told-status m e w tells.0 t tells.2
+    ends = renders.status ∙ tells.3
 
     page : IsPage m l (files_of election outcome (Some certificate)) e w tells.0 a
     page = record {
-      told = t;
+      told = t.told;
       pieces = renders.pieces;
       tells = tells.2;
       in_language = language;
@@ -123,9 +111,9 @@ page-answered m l election outcome certificate e w t a given taken tells languag
     }
 
 -- the text of a page that was made is one that tells this
-pub page-renders : (t : Told) (sums : List (List ℕ)) (page : Option (List Piece)) (a : Answer Status)
-    → IfSome page HasAnswer → IfSome page (HasInOrder sums) → IfSome page (ListsProjects t.mode t.found)
-    → IsSomeAnd page (λ pieces. a.text ≡ rendering (shows_of t) pieces) → a.status ≡ status_of t.mode t.found
+pub page-renders : (t : PageTold) (sums : List (List ℕ)) (page : Option (List Piece)) (a : Answer Status)
+    → IfSome page HasAnswer → IfSome page (HasInOrder sums) → IfSome page (ListsProjects t.told.mode t.told.found)
+    → IsSomeAnd page (λ pieces. a.text ≡ rendering (shows_of t.told) pieces) → a.status ≡ t.status
     → RendersTold t sums a
 page-renders t sums None a answers has projects text ends = absurd text
 page-renders t sums (Some pieces) a answers has projects text ends =

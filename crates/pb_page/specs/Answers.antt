@@ -24,6 +24,7 @@ use Rattle.pb_reply.specs.Promises.{CertificatePromises}
 use Rattle.pb_reply.specs.Certificates.{Certificate, OfPrices, OfRefutation, OfViolation, StatesCertificate, certificate_status}
 use Rattle.pb_markup.specs.Pieces.{Close, Headline, Line, Open, Piece, rendering}
 use Rattle.pb_price_parts.specs.Rows.{ListsProjects}
+use Rattle.pb_report.specs.Found.{claim_of}
 use Rattle.pb_case.specs.Shown.{ShowsLine}
 use Rattle.pb_page.specs.Sums.{HasInOrder, files_of, sums_of}
 use Rattle.pb_markup.specs.Shown.{shows_of}
@@ -52,7 +53,7 @@ pub record TellsGroup (e : Instance) (w : List Bool) (v : Measure × List ℕ ×
   pub line : ShowsLine (violation_line e (violation_verdict_of (FirstV (worth_by v.0 e) e w v.1 v.2))) l
   pub verdict : figures.verdict ≡ violation_verdict_of (FirstV (worth_by v.0 e) e w v.1 v.2)
   pub findings : figures.findings ≡ violation_findings (worth_by v.0 e) e w v.1 v.2
-  pub measure : figures.violation.measure ≡ v.0
+  pub claim : claim_of figures.violation ≡ v
   pub costs : figures.costs.items ≡ map (cost_of e) (all_projects e)
   pub limit : figures.limit ≡ e.limit
   pub total : figures.funded ≡ total e w

@@ -11,11 +11,10 @@ ghost use Rattle.pb_page.specs.Taken.{RendersTold, sums_shown};
 
 use crate::input_files::{ElectionFile, file_given, input_files, take_election, take_file};
 use crate::parts::whole_page;
-use crate::telling::{status_of, told_of};
+use crate::telling::{PageTold, told_of};
 use pb_case::{Case, Labels, PageFiles, Words, currency_of, language_of};
 use pb_election::DecidedElection;
-use pb_figures::{Style, Told, decimals_of};
-use pb_parts::nearest_of;
+use pb_figures::{Style, decimals_of};
 use pb_price::Mode;
 use pb_reply::{Answer, AsFile, File, Given, Status, Unanswered, decided_of, or_refusal};
 use pb_words::Language;
@@ -95,7 +94,7 @@ pub(crate) fn page_on(
     outcome: Option<File<'_>>,
     certificate: Option<File<'_>>,
     decided: &DecidedElection,
-    told: Told,
+    told: PageTold,
 ) -> Result<Answer<Status>, AllocError>
     ensures { IfOk result (RendersTold told (spec.sum_of election.file ∷ sums_of (option_to_list (option_map lent outcome.entry) ++ option_to_list (option_map lent certificate.entry)))) }
 {
@@ -109,10 +108,15 @@ fn page_with(
     files: PageFiles,
     labels: Labels,
     decided: &DecidedElection,
-    told: Told,
+    told: PageTold,
 ) -> Result<Answer<Status>, AllocError>
     ensures { IfOk result (RendersTold told (sums_shown files)) }
 {
+    let PageTold {
+        told,
+        nearest,
+        status,
+    } = told;
     let case = Case {
         words: Words {
             alloc,
@@ -123,12 +127,12 @@ fn page_with(
         currency: currency_of(alloc, &labels)?,
         names_in: language_of(&labels),
         labels,
-        nearest: nearest_of(alloc, decided, &told)?,
+        nearest,
         told,
     };
     let page = whole_page(alloc, &case);
     Ok(Answer {
         text: page.into_text(&case.told)?,
-        status: status_of(&case.told),
+        status,
     })
 }

@@ -1,29 +1,32 @@
 //! What is told of a certificate.
-ghost use Rattle.std.specs.Prelude.{◌≡◌, IfOk, map, string_bytes};
-ghost use Rattle.pb_election.specs.Instance.{IsSet, all_projects, cost_of, projects};
-ghost use Rattle.pb_certificate.specs.Violations.{ClaimFits};
+ghost use Rattle.std.specs.Prelude.{◌≡◌, IfOk, List, map, ℕ};
+ghost use Rattle.pb_records.specs.Loading as delivery;
+ghost use Rattle.pb_election.specs.Instance.{all_projects, cost_of};
 ghost use Rattle.pb_reply.specs.Inside.Loaded.{lent};
 ghost use Rattle.pb_reply.specs.Inside.Taking.{IfTaken};
-ghost use Rattle.pb_reply.specs.Certificates.{kind_in};
-ghost use Rattle.pb_certificate.specs.Refutations.{WeightsFit};
-ghost use Rattle.pb_page.specs.Answers.{TellsGroup, TellsWeights};
-ghost use Rattle.pb_page.specs.Taken.{FindsFigures, TellsCertificate, status_of};
+ghost use Rattle.pb_report.specs.CanBeTold.{CertificateCanBeTold};
+ghost use Rattle.pb_page.specs.Taken as spec;
+ghost use Rattle.pb_page.specs.Taken.{AreFiguresOf, AreGroupFigures, ArePriceFigures, AreWeightFigures, TellsCertificate, TellsFound};
 
 use pb_case::shown_line;
-use pb_certificate::{Kind, Refutation, Violation};
-use pb_cohesion::{cost_of_funded, refutation_findings, violation_findings};
+use pb_cohesion::cost_of_funded;
 use pb_election::{DecidedElection, Election};
 use pb_figures::{
     CertificateFigures, PriceFigures, RefutationFigures, Style, Told, ViolationFigures, extremes_of,
 };
-use pb_input::{InputFault, InputName};
-use pb_price::{Mode, findings_and_margins_of};
-use pb_reply::{
-    File, Status, Unanswered, bytes_of, groups_status, kind_in, price_line, price_status,
-    refutation_line, refutation_of, refutation_status, unanswered_at, violation_line, violation_of,
-    violation_status,
-};
+use pb_price::{Mode, NearestGroup};
+use pb_reply::{File, Status, Unanswered};
+use pb_report::{CertificateFound, GroupFound, PricesFound, WeightsFound, certificate_in};
 use std::alloc::{AllocError, Global};
+
+/// What a page tells, and how its answer ends.
+#[derive(Drop)]
+pub(crate) struct PageTold {
+    pub(crate) told: Told,
+    /// The group that comes nearest to what a yes to prices says of groups.
+    pub(crate) nearest: Option<NearestGroup>,
+    pub(crate) status: Status,
+}
 
 /// What is told of a certificate of any kind.
 pub(crate) fn told_of(
@@ -32,158 +35,143 @@ pub(crate) fn told_of(
     certificate: File<'_>,
     mode: Mode,
     style: Style,
-) -> Result<Told, Unanswered>
+) -> Result<PageTold, Unanswered>
     ensures told { IfTaken result (TellsCertificate mode (decided.now).election (decided.now).outcome.marks (lent certificate.entry)) }
-    ensures style { IfOk result (λ t. t.style ≡ style) }
+    ensures style { IfOk result (λ t. t.told.style ≡ style) }
 {
-    match kind_in(alloc, certificate)? {
-        Kind::Prices => prices_told(alloc, decided, certificate, mode, style),
-        Kind::Violation => violation_told(alloc, decided, certificate, mode, style),
-        Kind::Refutation => refutation_told(alloc, decided, certificate, mode, style),
-    }
+    let found = certificate_in(alloc, decided, certificate, mode)?;
+    Ok(told_by(alloc, decided, certificate, mode, style, found)?)
 }
 
-// What is told of prices.
-fn prices_told(
+// What is told of what was found.
+fn told_by(
     alloc: Global,
     decided: &DecidedElection,
     certificate: File<'_>,
     mode: Mode,
     style: Style,
-) -> Result<Told, Unanswered>
-    ensures told { kind_in (lent certificate.entry) ≡ Kind.Prices → IfTaken result (TellsCertificate mode (decided.now).election (decided.now).outcome.marks (lent certificate.entry)) }
-    ensures style { IfOk result (λ t. t.style ≡ style) }
+    found: CertificateFound,
+) -> Result<PageTold, AllocError>
+    requires { CertificateCanBeTold (decided.now).election found }
+    ensures told { IfOk result (TellsFound mode (decided.now).election (decided.now).outcome.marks found) }
+    ensures style { IfOk result (λ t. t.told.style ≡ style) }
 {
-    let election = decided.election();
-    let figures = price_figures(alloc, decided, certificate)?;
-    let verdict = figures.findings.verdict(mode);
-    Ok(Told {
-        style,
-        mode,
-        line: shown_line(alloc, &price_line(alloc, election, verdict, mode.stable)?)?,
-        found: CertificateFigures::Prices(figures),
+    let line = shown_line(alloc, &found.line(alloc, decided.election())?)?;
+    let nearest = nearest_in(&found);
+    let status = found.status();
+    Ok(PageTold {
+        told: Told {
+            style,
+            mode,
+            line,
+            found: figures_of(alloc, decided, certificate, found)?,
+        },
+        nearest,
+        status,
     })
 }
 
-// What is found of the prices that a certificate states.
+// The group that comes nearest to what a yes to prices says of groups.
+fn nearest_in(found: &CertificateFound) -> Option<NearestGroup>
+    ensures { result ≡ spec.nearest_in found.now }
+{
+    match found {
+        CertificateFound::Prices(prices) => prices.nearest,
+        CertificateFound::Group(_) | CertificateFound::Weights(_) => None,
+    }
+}
+
+// The figures of what was found of a certificate.
+fn figures_of(
+    alloc: Global,
+    decided: &DecidedElection,
+    certificate: File<'_>,
+    found: CertificateFound,
+) -> Result<CertificateFigures, AllocError>
+    ensures { IfOk result (AreFiguresOf (decided.now).election (decided.now).outcome.marks found) }
+{
+    match found {
+        CertificateFound::Prices(prices) => {
+            let figures = price_figures(alloc, decided.election(), certificate, prices)?;
+            Ok(CertificateFigures::Prices(figures))
+        }
+        CertificateFound::Group(group) => {
+            let figures = group_figures(alloc, decided, group)?;
+            Ok(CertificateFigures::Violation(figures))
+        }
+        CertificateFound::Weights(weights) => {
+            let figures = weight_figures(alloc, decided, weights)?;
+            Ok(CertificateFigures::Refutation(figures))
+        }
+    }
+}
+
+// The figures of prices.
 fn price_figures(
     alloc: Global,
-    decided: &DecidedElection,
+    election: &Election,
     certificate: File<'_>,
-) -> Result<PriceFigures, Unanswered>
-    ensures { IfTaken result (FindsFigures (decided.now).election (decided.now).outcome.marks (lent certificate.entry)) }
+    prices: PricesFound,
+) -> Result<PriceFigures, AllocError>
+    ensures { IfOk result (ArePriceFigures prices) }
 {
-    let (election, outcome) = (decided.election(), decided.outcome());
-    let bytes = bytes_of(InputName::Certificate, certificate)?;
-    match findings_and_margins_of(alloc, election, outcome, bytes) {
-        Ok((findings, margins)) => match extremes_of(alloc, election, bytes, &findings) {
-            Ok(extremes) => Ok(PriceFigures {
-                findings,
-                margins,
-                extremes,
-            }),
-            Err(_) => Err(Unanswered::Memory),
-        },
-        Err(refusal) => Err(unanswered_at(
-            InputName::Certificate,
-            InputFault::Certificate(refusal),
-        )),
-    }
-}
-
-// What is told of a group and its demand.
-fn violation_told(
-    alloc: Global,
-    decided: &DecidedElection,
-    certificate: File<'_>,
-    mode: Mode,
-    style: Style,
-) -> Result<Told, Unanswered>
-    ensures told { kind_in (lent certificate.entry) ≡ Kind.Violation → IfTaken result (TellsCertificate mode (decided.now).election (decided.now).outcome.marks (lent certificate.entry)) }
-    ensures style { IfOk result (λ t. t.style ≡ style) }
-{
-    let election = decided.election();
-    let violation = violation_of(alloc, InputName::Certificate, certificate, election)?;
-    let (line, figures) = group_told(alloc, decided, violation)?;
-    Ok(Told {
-        style,
-        mode,
-        line,
-        found: CertificateFigures::Violation(figures),
+    let extremes = extremes_of(alloc, election, bytes_in(certificate), &prices.findings)?;
+    Ok(PriceFigures {
+        findings: prices.findings,
+        margins: prices.margins,
+        extremes,
     })
 }
 
-// The line and the figures of a group and its demand.
-fn group_told(
+// The bytes of a certificate of which something was found, which are there.
+fn bytes_in(certificate: File<'_>) -> &[u8]
+    ensures { (bytes : List ℕ) → lent certificate.entry ≡ delivery.Bytes bytes → result.now ≡ bytes }
+{
+    match certificate {
+        File::Bytes(bytes) => bytes,
+        File::Unread | File::TooLong => &[],
+    }
+}
+
+// The figures of a group and its demand.
+fn group_figures(
     alloc: Global,
     decided: &DecidedElection,
-    violation: Violation,
-) -> Result<(String, ViolationFigures), AllocError>
-    requires violation { ClaimFits violation (decided.now).election }
-    requires demand { IsSet 1 (projects (decided.now).election) violation.demand }
-    ensures { IfOk result (λ told. TellsGroup (decided.now).election (decided.now).outcome.marks (violation.measure, violation.group, violation.demand) (string_bytes told.0) told.1) }
+    group: GroupFound,
+) -> Result<ViolationFigures, AllocError>
+    ensures { IfOk result (AreGroupFigures (decided.now).election (decided.now).outcome.marks group) }
 {
     let (election, outcome) = (decided.election(), decided.outcome());
-    let measure = violation.satisfaction();
-    let findings = violation_findings(election, outcome, &violation, &measure);
-    let verdict = findings.verdict(election);
-    let line = shown_line(alloc, &violation_line(alloc, election, verdict)?)?;
-    let figures = ViolationFigures {
-        verdict,
-        violation,
-        findings,
-        costs: costs_of(alloc, election)?,
+    let costs = costs_of(alloc, election)?;
+    Ok(ViolationFigures {
+        verdict: group.verdict,
+        violation: group.violation,
+        findings: group.findings,
+        costs,
         limit: election.limit().millionths(),
         funded: cost_of_funded(election, outcome),
         voters: election.voters(),
-    };
-    Ok((line, figures))
-}
-
-// What is told of weights.
-fn refutation_told(
-    alloc: Global,
-    decided: &DecidedElection,
-    certificate: File<'_>,
-    mode: Mode,
-    style: Style,
-) -> Result<Told, Unanswered>
-    ensures told { kind_in (lent certificate.entry) ≡ Kind.Refutation → IfTaken result (TellsCertificate mode (decided.now).election (decided.now).outcome.marks (lent certificate.entry)) }
-    ensures style { IfOk result (λ t. t.style ≡ style) }
-{
-    let refutation = refutation_of(alloc, certificate, decided.election())?;
-    let (line, figures) = weights_told(alloc, decided, refutation, mode.stable)?;
-    Ok(Told {
-        style,
-        mode,
-        line,
-        found: CertificateFigures::Refutation(figures),
     })
 }
 
-// The line and the figures of weights, by whether stable prices are asked about.
-fn weights_told(
+// The figures of weights.
+fn weight_figures(
     alloc: Global,
     decided: &DecidedElection,
-    refutation: Refutation,
-    stable: bool,
-) -> Result<(String, RefutationFigures), AllocError>
-    requires { WeightsFit refutation (decided.now).election }
-    ensures { IfOk result (λ told. TellsWeights stable (decided.now).election (decided.now).outcome.marks refutation (string_bytes told.0) told.1) }
+    weights: WeightsFound,
+) -> Result<RefutationFigures, AllocError>
+    ensures { IfOk result (AreWeightFigures (decided.now).election (decided.now).outcome.marks weights) }
 {
     let (election, outcome) = (decided.election(), decided.outcome());
-    let findings = refutation_findings(election, outcome, &refutation, stable);
-    let verdict = findings.verdict();
-    let line = shown_line(alloc, &refutation_line(alloc, election, verdict)?)?;
-    let figures = RefutationFigures {
-        verdict,
-        refutation,
-        findings,
-        costs: costs_of(alloc, election)?,
+    let costs = costs_of(alloc, election)?;
+    Ok(RefutationFigures {
+        verdict: weights.verdict,
+        refutation: weights.refutation,
+        findings: weights.findings,
+        costs,
         limit: election.limit().millionths(),
         funded: cost_of_funded(election, outcome),
-    };
-    Ok((line, figures))
+    })
 }
 
 /// What each project costs, in millionths.
@@ -195,16 +183,4 @@ pub(crate) fn costs_of(alloc: Global, election: &Election) -> Result<Vec<u64>, A
         costs.push(election.cost(k + 1).millionths())?;
     }
     Ok(costs)
-}
-
-/// How the answer ends.
-pub(crate) fn status_of(told: &Told) -> Status
-    ensures { result ≡ status_of (told.now).mode (told.now).found }
-{
-    match &told.found {
-        CertificateFigures::Prices(figures) => price_status(figures.findings.verdict(told.mode)),
-        CertificateFigures::Violation(figures) => violation_status(figures.verdict),
-        CertificateFigures::Refutation(figures) => refutation_status(figures.verdict),
-        CertificateFigures::Groups(figures) => groups_status(figures.verdict()),
-    }
 }

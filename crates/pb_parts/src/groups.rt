@@ -1,11 +1,9 @@
 //! What a yes to prices says of every group of voters.
 use pb_case::{Case, Fillings};
-use pb_election::DecidedElection;
 use pb_figures::{CertificateFigures, Told};
 use pb_markup::{Page, Tag};
-use pb_price::{NearestGroup, OnGroups, Verdict, nearest_to};
+use pb_price::{NearestGroup, OnGroups, Verdict};
 use pb_words::Sentence;
-use std::alloc::{AllocError, Global};
 
 // A unit of the currency in millionths.
 const MILLION: u64 = 1_000_000;
@@ -33,18 +31,6 @@ pub(crate) fn said_of_groups(told: &Told) -> Option<Sentence> {
 /// Whether the answer is a yes to prices, and says little of groups.
 pub fn says_little(case: &Case<'_>) -> bool {
     on_groups(&case.told) == Some(OnGroups::Little)
-}
-
-/// The supporters of an unfunded project who come nearest to their share, where something is said of groups.
-pub fn nearest_of(
-    alloc: Global,
-    decided: &DecidedElection,
-    told: &Told,
-) -> Result<Option<NearestGroup>, AllocError> {
-    match on_groups(told) {
-        Some(said) => nearest_to(alloc, decided.election(), decided.outcome(), said),
-        None => Ok(None),
-    }
 }
 
 /// Adds what the answer says of groups, where it says something, and the group that comes nearest.

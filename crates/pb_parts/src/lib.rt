@@ -11,5 +11,5 @@ mod top;
 pub use asked::push_asked;
 pub use closing::push_closing;
 pub use glance::push_glance;
-pub use groups::{nearest_of, push_groups, says_little};
+pub use groups::{push_groups, says_little};
 pub use top::{push_browser_title, push_top};

@@ -1,13 +1,16 @@
--- What the findings on prices tell: which conditions hold, and the first that doesn't.
-use Rattle.std.specs.Prelude.{◌≡◌, ◌<◌, ◌≤◌, ◌↔◌, ◌&&◌, if◌then◌else◌, nat_le, nat_lt, Bool, List, Option, Some, None, option_map}
+-- What the findings on prices tell: which conditions hold, and the first that doesn't; and how that is told.
+use Rattle.std.specs.Prelude.{◌≡◌, ◌<◌, ◌≤◌, ◌↔◌, ◌&&◌, if◌then◌else◌, nat_le, nat_lt, Bool, List, Option, Some, None, codes, option_map}
 use Rattle.std.specs.Option.{option_or}
 use Rattle.pb_election.specs.Instance.{Instance}
 use Rattle.pb_certificate.specs.Prices.{Prices}
 use Rattle.pb_cohesion.specs.Conditions.{C1, C2, C3, C4, C5, Cover, Exhaustive, Feasible, S5}
+use Rattle.pb_cohesion.specs.Failed.{Failed, NamesProject, failed}
 use Rattle.pb_price.specs.declared.Failure.{Failure}
 use Rattle.pb_price.specs.declared.Failure.TheVariants as failure
 use Rattle.pb_price.specs.declared.Findings.{Findings}
 use Rattle.pb_cohesion.specs.declared.Mode.{Mode}
+use Rattle.pb_price.specs.declared.Verdict.{Verdict}
+use Rattle.pb_price.specs.declared.Verdict.TheVariants as verdict
 
 -- Feasible holds where the total is at most the limit, Cover where the budgets are more than the limit, and each other
 -- condition where it has no culprit
@@ -47,3 +50,20 @@ abbrev pub first_told : Mode → Findings → Option Failure
 first_told m f =
     option_or (option_or (option_or (told_of_outcome m f) (told_of_budgets m f)) (told_of_payments f))
     (told_of_supporters m f)
+
+-- a condition that fails, as it is told
+abbrev pub price_failed : Failure → Failed
+price_failed failure.Feasible = failed 1 (codes "Feasible") None None
+price_failed (failure.Exhaustive j) = failed 2 (codes "Exhaustive") None (Some j)
+price_failed failure.Cover = failed 3 (codes "Cover") None None
+price_failed (failure.C1 i j) = failed 4 (codes "C1") (Some i) (Some j)
+price_failed (failure.C2 i) = failed 5 (codes "C2") (Some i) None
+price_failed (failure.C3 j) = failed 6 (codes "C3") None (Some j)
+price_failed (failure.C4 j) = failed 7 (codes "C4") None (Some j)
+price_failed (failure.C5 j) = failed 8 (codes "C5") None (Some j)
+price_failed (failure.S5 j) = failed 9 (codes "S5") None (Some j)
+
+-- the project that a verdict names is one of the election
+abbrev pub PricesNameProject : Instance → Verdict → Type 0
+PricesNameProject e verdict.Supported = Unit {0}
+PricesNameProject e (verdict.Failed f) = NamesProject e (price_failed f)

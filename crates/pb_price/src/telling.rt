@@ -1,10 +1,11 @@
-//! The verdict that the findings on prices tell.
+//! The verdict that the findings on prices tell, and how a condition that fails is told.
 
 ghost use Rattle.std.specs.Prelude.{◌≡◌};
 ghost use Rattle.pb_price.specs.First.{verdict_of};
-ghost use Rattle.pb_price.specs.Told.{first_told, told_of_budgets, told_of_outcome, told_of_payments, told_of_supporters};
+ghost use Rattle.pb_price.specs.Told.{first_told, price_failed, told_of_budgets, told_of_outcome, told_of_payments, told_of_supporters};
 
 use crate::{Failure, Findings, Mode, Verdict};
+use pb_cohesion::FailedAt;
 
 impl Findings {
     /// The verdict that the findings tell: that the prices support the outcome, where each condition of the mode holds
@@ -73,6 +74,25 @@ impl Findings {
             self.s5.first.map(Failure::S5)
         } else {
             self.c5.first.map(Failure::C5)
+        }
+    }
+}
+
+impl Failure {
+    /// The condition that fails, with where it does.
+    pub fn failed_at(self) -> FailedAt
+        ensures { result ≡ price_failed self }
+    {
+        match self {
+            Failure::Feasible => FailedAt::new(1, "Feasible", None, None),
+            Failure::Exhaustive(j) => FailedAt::new(2, "Exhaustive", None, Some(j)),
+            Failure::Cover => FailedAt::new(3, "Cover", None, None),
+            Failure::C1(i, j) => FailedAt::new(4, "C1", Some(i), Some(j)),
+            Failure::C2(i) => FailedAt::new(5, "C2", Some(i), None),
+            Failure::C3(j) => FailedAt::new(6, "C3", None, Some(j)),
+            Failure::C4(j) => FailedAt::new(7, "C4", None, Some(j)),
+            Failure::C5(j) => FailedAt::new(8, "C5", None, Some(j)),
+            Failure::S5(j) => FailedAt::new(9, "S5", None, Some(j)),
         }
     }
 }

@@ -7,6 +7,7 @@ use Rattle.pb_election.specs.Instance.{Instance, IsProject, IsSet, all_projects,
 use Rattle.pb_certificate.specs.Prices.{Prices}
 use Rattle.pb_certificate.specs.Refutations.{Weights}
 use Rattle.pb_cohesion.specs.Conditions.{culprits_of_C1, culprits_of_C2, culprits_of_C3, culprits_of_C4, culprits_of_Exhaustive}
+use Rattle.pb_cohesion.specs.Failed.{NamesProject, RefutationNamesProject, ViolationNamesProject, refutation_failed, violation_failed}
 use Rattle.pb_cohesion.specs.FirstU.{FirstStableU, FirstU, costs_agree, refutation_failures_of, refutation_verdict, verdict_by}
 use Rattle.pb_cohesion.specs.FirstV.{FirstV, culprits_of_V2, culprits_of_V4, violation_failures_of, violation_verdict_of}
 use Rattle.pb_cohesion.specs.Outcome.{total}
@@ -20,7 +21,7 @@ use Rattle.pb_cohesion.specs.declared.ViolationVerdict.{ViolationVerdict}
 use Rattle.pb_cohesion.proofs.Sets.{set-all}
 use Rattle.pb_price.specs.First.{First, failures_of, failures_of_budgets, failures_of_outcome, failures_of_payments, failures_of_supporters, verdict_of}
 use Rattle.pb_price.specs.Findings.{findings}
-use Rattle.pb_price.specs.Told.{first_told}
+use Rattle.pb_price.specs.Told.{PricesNameProject, first_told, price_failed}
 use Rattle.pb_price.specs.declared.Failure.{Failure}
 use Rattle.pb_price.specs.declared.Failure.TheVariants as failure
 use Rattle.pb_price.specs.declared.Findings.{Findings}
@@ -30,8 +31,6 @@ use Rattle.pb_json.proofs.Named.{among-projects, projects-are, unapproved-name}
 use Rattle.pb_price.proofs.Told.{tell-first}
 use Rattle.pb_records.specs.Loading.{Delivery}
 use Rattle.pb_reply.specs.Inputs.{StatesPrices}
-use Rattle.pb_reply.specs.Lines.{price_failed, refutation_failed, violation_failed}
-use Rattle.pb_reply.specs.Named.{NamesProject, PricesNameProject, RefutationNamesProject, ViolationNamesProject}
 use Rattle.pb_input.specs.declared.InputName.{InputName}
 
 -- a failure of prices names a project of the election, if any

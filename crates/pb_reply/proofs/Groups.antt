@@ -10,7 +10,6 @@ use Rattle.pb_cohesion.specs.declared.GroupFigures.{GroupFigures}
 use Rattle.pb_cohesion.specs.declared.GroupsVerdict.{GroupsVerdict}
 use Rattle.pb_cohesion.specs.declared.GroupsVerdict.TheVariants.{Satisfied, Failed}
 use Rattle.pb_cohesion.proofs.FirstShort.{failed-is, satisfied-is}
-use Rattle.pb_reply.specs.Named.{GroupsNameProject}
 use Rattle.pb_reply.specs.Promises.{GroupsPromise}
 use Rattle.pb_reply.specs.Replies.{groups_status}
 
@@ -28,12 +27,3 @@ groups-promise m e w xs figures =
       exactly = (λ yes'. cc, λ good. absurd (let bad : Failed d j ≡ Satisfied = satisfied.1 good in cc));
       first = λ c k is. failed c k (let project : d ≡ c = cc in let count : j ≡ k = cc in ap₂ Failed project count);
     }
-
--- it names a project of the election, if any
-pub groups-name-project : (m : Measure) (e : Instance) (w : List Bool) (xs : List GroupFigures)
-    → AreAllFigures m e w xs → GroupsNameProject e (verdict_of xs)
-groups-name-project m e w xs figures = by (verdict_of xs) refl
-  where
-    by : (v : GroupsVerdict) → verdict_of xs ≡ v → GroupsNameProject e v
-    by Satisfied is = tt
-    by (Failed c k) is = (failed-is m e w xs c k figures is).1.largest.short.unfunded.0

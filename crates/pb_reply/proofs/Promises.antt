@@ -107,7 +107,7 @@ refutation_promises stable e w r = record {
     exactly = through (status-says (verdict_on_weights stable e w r)) (says-asked stable e w r)
 
 -- a certificate that states prices is taken as prices, and states them as such
-prices_stated : (k : Kind) (e : Instance) (d : Delivery) (p : Prices) → StatesKind k e d (Ok (OfPrices p))
+pub prices_stated : (k : Kind) (e : Instance) (d : Delivery) (p : Prices) → StatesKind k e d (Ok (OfPrices p))
     → StatesPrices name.Certificate e d (Ok p)
 prices_stated kind.Prices e d p h = go h.0 h.1 h.2
   where

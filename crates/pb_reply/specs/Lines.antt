@@ -2,22 +2,18 @@
 use Rattle.std.specs.Prelude.{◌==◌, nat_lt, if◌then◌else◌, Bool, ℕ, List, [], ◌∷◌, ◌++◌, count_by, Option, Some, None, codes, decimal}
 use Rattle.std.specs.Option.{option_map}
 use Rattle.pb_election.specs.Instance.{Instance, id_of, projects, voters}
+use Rattle.pb_cohesion.specs.Failed.{Failed, refutation_failed, violation_failed}
 use Rattle.pb_cohesion.specs.Outcome.{total}
 use Rattle.pb_election.specs.declared.columns.UnusedColumns.{UnusedColumns}
 use Rattle.pb_certificate.specs.declared.violations.measure.Measure.{Measure}
 use Rattle.pb_certificate.specs.declared.violations.measure.Measure.TheVariants.{ByCount, ByCost}
 use Rattle.pb_cohesion.specs.declared.GroupsVerdict.{GroupsVerdict}
 use Rattle.pb_cohesion.specs.declared.GroupsVerdict.TheVariants as groups_verdict
-use Rattle.pb_cohesion.specs.declared.RefutationFailure.{RefutationFailure}
-use Rattle.pb_cohesion.specs.declared.RefutationFailure.TheVariants.{U1, U2, U3}
 use Rattle.pb_cohesion.specs.declared.RefutationVerdict.{RefutationVerdict}
 use Rattle.pb_cohesion.specs.declared.RefutationVerdict.TheVariants as refutation_verdict
-use Rattle.pb_cohesion.specs.declared.ViolationFailure.{ViolationFailure}
-use Rattle.pb_cohesion.specs.declared.ViolationFailure.TheVariants.{V1, V2, V3, V4}
 use Rattle.pb_cohesion.specs.declared.ViolationVerdict.{ViolationVerdict}
 use Rattle.pb_cohesion.specs.declared.ViolationVerdict.TheVariants as violation_verdict
-use Rattle.pb_price.specs.declared.Failure.{Failure}
-use Rattle.pb_price.specs.declared.Failure.TheVariants as failure
+use Rattle.pb_price.specs.Told.{price_failed}
 use Rattle.pb_price.specs.declared.Verdict.{Verdict}
 use Rattle.pb_price.specs.declared.Verdict.TheVariants as verdict
 use Rattle.pb_records.specs.Records.{Text}
@@ -84,11 +80,6 @@ abbrev pub limit_note : Instance → List Bool → List Text
 limit_note e w = if nat_lt e.limit (total e w) then limit_words ∷ [] else []
 
 -- a condition or a test that fails: its name, and the voter and the project at which it does
-pub record Failed : Type 0 where
-  pub name : Text
-  pub voter : Option ℕ
-  pub project : Option ℕ
-
 abbrev pub voter_words : Option ℕ → Text
 voter_words None = []
 voter_words (Some i) = codes " voter " ++ decimal i
@@ -101,38 +92,16 @@ abbrev pub failed_line : Instance → Failed → Text
 failed_line e f = codes "failed " ++ f.name ++ voter_words f.voter ++ project_words e f.project
 
 -- the line of a verdict on prices, in the stable form or the plain one
-abbrev pub price_failed : Failure → Failed
-price_failed failure.Feasible = record { name = codes "Feasible"; voter = None; project = None }
-price_failed (failure.Exhaustive j) = record { name = codes "Exhaustive"; voter = None; project = Some j }
-price_failed failure.Cover = record { name = codes "Cover"; voter = None; project = None }
-price_failed (failure.C1 i j) = record { name = codes "C1"; voter = Some i; project = Some j }
-price_failed (failure.C2 i) = record { name = codes "C2"; voter = Some i; project = None }
-price_failed (failure.C3 j) = record { name = codes "C3"; voter = None; project = Some j }
-price_failed (failure.C4 j) = record { name = codes "C4"; voter = None; project = Some j }
-price_failed (failure.C5 j) = record { name = codes "C5"; voter = None; project = Some j }
-price_failed (failure.S5 j) = record { name = codes "S5"; voter = None; project = Some j }
-
 abbrev pub price_line : Bool → Instance → Verdict → Text
 price_line stable e verdict.Supported = if stable then codes "supported stable" else codes "supported priceable"
 price_line stable e (verdict.Failed f) = failed_line e (price_failed f)
 
 -- the line of a verdict on a violation
-abbrev pub violation_failed : ViolationFailure → Failed
-violation_failed V1 = record { name = codes "V1"; voter = None; project = None }
-violation_failed (V2 i j) = record { name = codes "V2"; voter = Some i; project = Some j }
-violation_failed V3 = record { name = codes "V3"; voter = None; project = None }
-violation_failed (V4 i) = record { name = codes "V4"; voter = Some i; project = None }
-
 abbrev pub violation_line : Instance → ViolationVerdict → Text
 violation_line e violation_verdict.Violation = codes "violation"
 violation_line e (violation_verdict.Failed f) = failed_line e (violation_failed f)
 
 -- the line of a verdict on a refutation
-abbrev pub refutation_failed : RefutationFailure → Failed
-refutation_failed (U1 j) = record { name = codes "U1"; voter = None; project = Some j }
-refutation_failed U2 = record { name = codes "U2"; voter = None; project = None }
-refutation_failed U3 = record { name = codes "U3"; voter = None; project = None }
-
 abbrev pub refutation_line : Instance → RefutationVerdict → Text
 refutation_line e refutation_verdict.Unpriceable = codes "unpriceable"
 refutation_line e refutation_verdict.UnpriceableUnderCover = codes "unpriceable cover"

@@ -29,6 +29,12 @@ pub record Reply : Type 0 where
   pub json : Text
   pub status : Status
 
+-- a table: its text, the same as the text of a JSON object, and how it ends
+pub record TableText : Type 0 where
+  pub text : Text
+  pub json : Text
+  pub status : Status
+
 -- an answer: its text, and how it ends, by a status of some kind
 pub record Answer (S : Type 0) : Type 0 where
   pub text : Text
@@ -37,6 +43,9 @@ pub record Answer (S : Type 0) : Type 0 where
 -- each line with its end, LF
 abbrev pub text_of : List Text → Text
 text_of lines = flat_map (λ l. l ++ (line_end ∷ [])) lines
+
+abbrev pub as_table : Reply → TableText
+as_table reply = record { text = text_of reply.lines; json = reply.json; status = reply.status }
 
 abbrev pub answer_of : Reply → Answer Status
 answer_of reply = record { text = text_of reply.lines; status = reply.status }

@@ -53,7 +53,7 @@ impl Reply {
     {
         match format {
             Format::Lines => self.answer(alloc),
-            Format::Json => self.object_answer(alloc),
+            Format::Json => object_answer(alloc, &self.object, self.status),
             Format::JsonAndLines => {
                 let mut text = String::new(alloc);
                 push_line(&mut text, &self.object.text(alloc)?)?;
@@ -64,20 +64,6 @@ impl Reply {
                 })
             }
         }
-    }
-
-    /// The text of the object alone, in a line.
-    fn object_answer(&self, alloc: Global) -> Result<Answer<Status>, AllocError>
-        ensures text { IfOk result (λ answer. answer ≡ answer_as Json self.now) }
-        ensures json { IfOk result (λ answer. AreJsonLines answer.text) }
-    {
-        let object = self.object.text(alloc)?;
-        let mut text = String::new(alloc);
-        push_line(&mut text, &object)?;
-        Ok(Answer {
-            text: text.into_bytes(),
-            status: self.status,
-        })
     }
 
     /// The text of the reply: each line with its end, LF.
@@ -91,6 +77,24 @@ impl Reply {
             status: self.status,
         })
     }
+}
+
+/// The text of an object alone, in a line.
+pub(crate) fn object_answer(
+    alloc: Global,
+    object: &Object,
+    status: Status,
+) -> Result<Answer<Status>, AllocError>
+    ensures text { IfOk result (λ answer. answer ≡ record { text = text_of (object.now ∷ []); status = status }) }
+    ensures json { IfOk result (λ answer. AreJsonLines answer.text) }
+{
+    let object = object.text(alloc)?;
+    let mut text = String::new(alloc);
+    push_line(&mut text, &object)?;
+    Ok(Answer {
+        text: text.into_bytes(),
+        status,
+    })
 }
 
 /// Adds lines to a text, each with its end.
@@ -130,17 +134,21 @@ impl<S: Copy> Answer<S> {
     }
 }
 
-/// What is told of a reply: itself, or its text as lines.
+/// As what a reply is told: as itself, or as a table.
 pub trait FromReply: Sized + Drop {
     ghost told: { replies.Reply → Self };
 
     /// What is told of this reply.
     fn from_reply(alloc: Global, reply: Reply) -> Result<Self, AllocError>
         ensures { IfOk result (λ own. own ≡ told reply) };
+}
 
-    /// The answer on the replies of which this is told.
-    fn into_answer(self, alloc: Global) -> Result<Answer<Status>, AllocError>
-        ensures { (reply : replies.Reply) → self ≡ told reply → IfOk result (λ answer. answer ≡ answer_of reply) };
+/// What is told of a reply, of which the answer can be made in each format.
+pub trait InFormats: FromReply {
+    /// The answer in a format on the replies of which this is told.
+    fn in_format(self, alloc: Global, format: Format) -> Result<Answer<Status>, AllocError>
+        ensures text { (reply : replies.Reply) → self ≡ Self.FromReply.told reply → IfOk result (λ answer. answer ≡ answer_as format reply) }
+        ensures json { format ≡ Json → IfOk result (λ answer. AreJsonLines answer.text) };
 }
 
 impl FromReply for Reply {
@@ -149,9 +157,11 @@ impl FromReply for Reply {
     fn from_reply(_alloc: Global, reply: Reply) -> Result<Reply, AllocError> {
         Ok(reply)
     }
+}
 
-    fn into_answer(self, alloc: Global) -> Result<Answer<Status>, AllocError> {
-        self.answer(alloc)
+impl InFormats for Reply {
+    fn in_format(self, alloc: Global, format: Format) -> Result<Answer<Status>, AllocError> {
+        self.answer_as(alloc, format)
     }
 }
 
@@ -160,10 +170,6 @@ impl FromReply for Answer<Status> {
 
     fn from_reply(alloc: Global, reply: Reply) -> Result<Answer<Status>, AllocError> {
         reply.answer(alloc)
-    }
-
-    fn into_answer(self, _alloc: Global) -> Result<Answer<Status>, AllocError> {
-        Ok(self)
     }
 }
 

@@ -1,81 +1,17 @@
 //! The lines of verdicts.
 ghost use Rattle.std.specs.Prelude.{◌≡◌, IfOk, string_bytes};
+ghost use Rattle.pb_cohesion.specs.Failed.{NamesProject, RefutationNamesProject, ViolationNamesProject};
+ghost use Rattle.pb_price.specs.Told.{PricesNameProject};
 ghost use Rattle.pb_reply.specs.Replies as replies;
 ghost use Rattle.pb_reply.specs.Lines as spec;
-ghost use Rattle.pb_reply.specs.Named.{GroupsNameProject, NamesProject, PricesNameProject, RefutationNamesProject, ViolationNamesProject};
+ghost use Rattle.pb_reply.specs.Named.{GroupsNameProject};
 
 use crate::{Status, Unmet};
 use pb_certificate::Measure;
-use pb_cohesion::{
-    GroupsVerdict, RefutationFailure, RefutationVerdict, ViolationFailure, ViolationVerdict,
-};
+use pb_cohesion::{FailedAt, GroupsVerdict, RefutationVerdict, ViolationVerdict};
 use pb_election::Election;
-use pb_price::{Failure, Verdict};
+use pb_price::Verdict;
 use std::alloc::{AllocError, Global};
-use std::marker::Model;
-
-/// A condition or a test that fails, with the voter and the project at which it does.
-#[derive(Drop)]
-struct FailedAt {
-    name: &'static str,
-    voter: Option<u32>,
-    project: Option<u32>,
-}
-
-impl Model for FailedAt {
-    ghost use Rattle.pb_reply.specs.Lines.{Failed};
-
-    ghost Value = { Failed };
-
-    ghost view = { λ f. record { name = f.name.now; voter = f.voter; project = f.project } };
-}
-
-fn failed_at(name: &'static str, voter: Option<u32>, project: Option<u32>) -> FailedAt
-    ensures { result ≡ record { name = name.entry.now; voter = voter; project = project } }
-{
-    FailedAt {
-        name,
-        voter,
-        project,
-    }
-}
-
-fn price_failed(failure: Failure) -> FailedAt
-    ensures { result ≡ spec.price_failed failure }
-{
-    match failure {
-        Failure::Feasible => failed_at("Feasible", None, None),
-        Failure::Exhaustive(j) => failed_at("Exhaustive", None, Some(j)),
-        Failure::Cover => failed_at("Cover", None, None),
-        Failure::C1(i, j) => failed_at("C1", Some(i), Some(j)),
-        Failure::C2(i) => failed_at("C2", Some(i), None),
-        Failure::C3(j) => failed_at("C3", None, Some(j)),
-        Failure::C4(j) => failed_at("C4", None, Some(j)),
-        Failure::C5(j) => failed_at("C5", None, Some(j)),
-        Failure::S5(j) => failed_at("S5", None, Some(j)),
-    }
-}
-
-fn violation_failed(failure: ViolationFailure) -> FailedAt
-    ensures { result ≡ spec.violation_failed failure }
-{
-    match failure {
-        ViolationFailure::V1 => failed_at("V1", None, None),
-        ViolationFailure::V2(i, j) => failed_at("V2", Some(i), Some(j)),
-        ViolationFailure::V3 => failed_at("V3", None, None),
-        ViolationFailure::V4(i) => failed_at("V4", Some(i), None),
-    }
-}
-
-fn refutation_failed(failure: RefutationFailure) -> FailedAt
-    ensures { result ≡ spec.refutation_failed failure }
-{
-    match failure {
-        RefutationFailure::U1(j) => failed_at("U1", None, Some(j)),
-        RefutationFailure::U2 => failed_at("U2", None, None),
-        RefutationFailure::U3 => failed_at("U3", None, None),
-    }
-}
 
 /// The line of a verdict on prices, in the stable form or the plain one.
 pub fn price_line(
@@ -90,7 +26,7 @@ pub fn price_line(
     match verdict {
         Verdict::Supported if stable => String::from_str(alloc, "supported stable"),
         Verdict::Supported => String::from_str(alloc, "supported priceable"),
-        Verdict::Failed(failure) => failed_line(alloc, election, &price_failed(failure)),
+        Verdict::Failed(failure) => failed_line(alloc, election, &failure.failed_at()),
     }
 }
 
@@ -114,11 +50,7 @@ pub fn violation_line(
 {
     match verdict {
         ViolationVerdict::Violation => String::from_str(alloc, "violation"),
-        ViolationVerdict::Failed(failure) => failed_line(
-            alloc,
-            election,
-            &violation_failed(failure),
-        ),
+        ViolationVerdict::Failed(failure) => failed_line(alloc, election, &failure.failed_at()),
     }
 }
 
@@ -147,11 +79,7 @@ pub fn refutation_line(
         RefutationVerdict::UnpriceableStableUnderCover => {
             String::from_str(alloc, "unpriceable stable cover")
         }
-        RefutationVerdict::Failed(failure) => failed_line(
-            alloc,
-            election,
-            &refutation_failed(failure),
-        ),
+        RefutationVerdict::Failed(failure) => failed_line(alloc, election, &failure.failed_at()),
     }
 }
 

@@ -4,7 +4,7 @@ ghost use Rattle.pb_command.specs.Tasks.{asked, outcome_paths, paths};
 ghost use Rattle.pb_run.specs.Asking.{AnswersAt, AnswersOn, HandsAll, HandsOutcome, alone, beside, format_of, of_outcome, order, places_of, with_outcome};
 
 use crate::files::Files;
-use pb_audit::{Answer, Format, Question, Status, answer};
+use pb_audit::{Answer, Format, InputName, Question, Status, answer};
 use pb_certificate::Measure;
 use pb_cohesion::Mode;
 use pb_command::{Inputs, OutcomeInputs, Task};
@@ -76,6 +76,16 @@ impl<'a> Paths<'a> {
             outcome: inputs.outcome.as_deref(),
             certificate: &inputs.certificate,
             violation: "",
+        }
+    }
+
+    /// The path of an input, where it has one.
+    pub(crate) fn of_input(self, input: InputName) -> Option<&'a str> {
+        match input {
+            InputName::Election => Some(self.election),
+            InputName::Outcome => self.outcome,
+            InputName::Violation => Some(self.violation),
+            _ => Some(self.certificate),
         }
     }
 }

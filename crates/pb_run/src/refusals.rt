@@ -1,8 +1,9 @@
 //! What people are told beside an answer: notes on the election, and why a file is refused.
+use crate::asking::{Ask, asked_by};
 use crate::files::Files;
-use pb_audit::{InputFault, InputName, InputRefusal};
+use pb_audit::{InputFault, InputName, InputRefusal, Question};
 use pb_certificate::CertFault;
-use pb_command::{OutcomeInputs, Task};
+use pb_command::Task;
 use pb_hints::{FileKind, Remark, hint, push_quoted, push_shown};
 use std::alloc::{AllocError, Global};
 use std::io;
@@ -168,43 +169,26 @@ fn asks_for_election(fault: InputFault) -> bool {
 
 /// What an input of a task is to be, as far as the task tells, and its path; none for standard input.
 fn input_of(task: &Task, input: InputName) -> Option<(FileKind, Option<&str>)> {
-    let (inputs, kind) = match task {
-        Task::Read { election, .. } => return Some((FileKind::Election, election.as_deref())),
-        Task::Folder { .. } => return None,
-        Task::Groups { inputs, .. }
-        | Task::ExplainGroups { inputs, .. }
-        | Task::GroupsPage { inputs, .. }
-        | Task::GroupMargins { inputs, .. } => return outcome_input_of(inputs, input),
-        Task::Prices { inputs, .. } | Task::Margins(inputs) | Task::Tidy(inputs) => {
-            (inputs, FileKind::Prices)
-        }
-        Task::Violation(inputs) => (inputs, FileKind::Violation),
-        Task::Refutation { inputs, .. } => (inputs, FileKind::Refutation),
-        Task::Both {
-            inputs,
-            violation,
-            ..
-        } => match input {
-            InputName::Violation => return Some((FileKind::Violation, Some(violation))),
-            _ => (inputs, FileKind::Prices),
+    match asked_by(task) {
+        Some((paths, ask)) => Some((kind_of(ask, input), Some(paths.of_input(input)?))),
+        None => match task {
+            Task::Read { .. } => Some((FileKind::Election, None)),
+            _ => None,
         },
-        Task::Explain { inputs, .. } | Task::Page { inputs, .. } => {
-            (inputs, FileKind::Certificate)
-        }
-    };
-    match input {
-        InputName::Election => Some((FileKind::Election, Some(&inputs.election))),
-        InputName::Outcome => Some((FileKind::Outcome, Some(inputs.outcome.as_deref()?))),
-        _ => Some((kind, Some(&inputs.certificate))),
     }
 }
 
-/// The same where no certificate is taken.
-fn outcome_input_of(inputs: &OutcomeInputs, input: InputName) -> Option<(FileKind, Option<&str>)> {
-    match input {
-        InputName::Election => Some((FileKind::Election, Some(&inputs.election))),
-        InputName::Outcome => Some((FileKind::Outcome, Some(inputs.outcome.as_deref()?))),
-        _ => None,
+/// What an input is to be of which this is asked.
+fn kind_of(ask: Ask, input: InputName) -> FileKind {
+    match (input, ask) {
+        (InputName::Election, _) => FileKind::Election,
+        (InputName::Outcome, _) => FileKind::Outcome,
+        (InputName::Violation, _) | (_, Ask::Question(Question::Violation, _)) => {
+            FileKind::Violation
+        }
+        (_, Ask::Question(Question::Refutation(_), _)) => FileKind::Refutation,
+        (_, Ask::Question(Question::Explain(_), _) | Ask::Page(_, _)) => FileKind::Certificate,
+        _ => FileKind::Prices,
     }
 }
 

@@ -2,9 +2,11 @@
    bytes. Room that was given isn't taken back before the next audit, for which all memory is as it was at first. */
 
 import { COMMANDS, pageCall, reportCall } from "./commands.js";
+import { KINDS } from "./kinds.js";
 import { replyIn } from "./replies.js";
 import { NO_MEMORY, OutOfMemory } from "./statuses.js";
 import type { Call, Command, PageCommand, Place, Question, Row, Word } from "./commands.js";
+import type { Kind } from "./kinds.js";
 import type { Reply } from "./replies.js";
 
 /** How a call ends, and its text. */
@@ -22,7 +24,7 @@ interface Calls {
 /** The room for an answer that is guessed at first: for a text, and for some lines. */
 const TEXT_ROOM = 1 << 22, LINES_ROOM = 1 << 16;
 /** The bytes of pbaudit_facts, which a page tells beside its text. */
-const FACTS_LENGTH = 40;
+export const FACTS_LENGTH = 40;
 
 /** The canonical text of a certificate is about as long as the certificate. */
 function guessFor(command: Command, { files }: Question): number {
@@ -39,6 +41,7 @@ export class Auditor {
   private answered: Place | undefined;
   private needed: Place | undefined;
   private facts: Place | undefined;
+  private kind: Place | undefined;
 
   constructor(module: WebAssembly.Module) {
     this.calls = new WebAssembly.Instance(module, {}).exports as unknown as Calls;
@@ -57,7 +60,7 @@ export class Auditor {
     const below = this.below();
     below.fill(0);
     below.set(this.first, this.from);
-    this.answered = this.needed = this.facts = undefined;
+    this.answered = this.needed = this.facts = this.kind = undefined;
   }
 
   /** The memory below what was never taken. */
@@ -96,13 +99,21 @@ export class Auditor {
    * again.
    */
   report(command: Command, asked: Question, guess = guessFor(command, asked)): Reply {
-    const { isText }: Row = COMMANDS[command], { status, bytes } = this.call(reportCall(command, asked), guess);
-    return replyIn(status, bytes, !isText);
+    const { lacksObject = false }: Row = COMMANDS[command];
+    const { status, bytes } = this.call(reportCall(command, asked), guess);
+    return replyIn(status, bytes, !lacksObject);
   }
 
   /** A page, or the line of a refusal. */
   page(command: PageCommand, asked: Question): Ended {
     return this.call(pageCall(command, asked, this.facts ??= this.room(FACTS_LENGTH)), TEXT_ROOM);
+  }
+
+  /** What a file is. Its front is enough. */
+  kindOf({ at, length }: Place): Kind {
+    const kind = this.kind ??= this.room(1);
+    if (this.export("pbaudit_kind")(at, length, kind.at) === NO_MEMORY) throw new OutOfMemory();
+    return KINDS[this.bytes(kind)[0]];
   }
 
   private view({ at, length }: Place): DataView {

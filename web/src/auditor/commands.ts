@@ -33,16 +33,19 @@ export interface Question {
 /** What a certificate has to be: one of some kind, or of any. */
 export type Wanted = "prices" | "violation" | "refutation" | "certificate";
 
-/**
- * A command: the number of its question (a page has a call of its own), by measures where it has one for each, the files
- * that it needs, what its certificate has to be, whether its answer is a text alone and no object, and whether it is a
- * line or a few, and no text that grows with the files.
- */
+/** A command. */
 export interface Row {
+  /** The number of its question, or one for each measure. A page has none, but a call of its own. */
   readonly question?: number | Readonly<Record<Measure, number>>;
+  /** The files that it can't do without. */
   readonly needs: readonly Role[];
+  /** What its certificate has to be. */
   readonly certificate?: Wanted;
-  readonly isText?: boolean;
+  /** The page is told its text, which is a file to be saved, and not what it says. */
+  readonly tellsText?: boolean;
+  /** Its reply has no object: behind the first line is the text. */
+  readonly lacksObject?: boolean;
+  /** Its answer is a line or a few, for which little room is enough at first. */
   readonly isShort?: boolean;
 }
 
@@ -56,11 +59,11 @@ export const COMMANDS = rows({
   refutation: { question: 3, needs: ["election", "certificate"], certificate: "refutation", isShort: true },
   both: { question: 4, needs: ["election", "certificate", "violation"], certificate: "prices", isShort: true },
   explain: { question: 5, needs: ["election", "certificate"], certificate: "certificate" },
-  margins: { question: 6, needs: ["election", "certificate"], certificate: "prices", isText: true },
-  tidy: { question: 7, needs: ["election", "certificate"], certificate: "prices", isText: true },
+  margins: { question: 6, needs: ["election", "certificate"], certificate: "prices", tellsText: true },
+  tidy: { question: 7, needs: ["election", "certificate"], certificate: "prices", tellsText: true, lacksObject: true },
   page: { needs: ["election", "certificate"], certificate: "certificate" },
   explainGroups: { question: { cost: 10, count: 11 }, needs: ["election"] },
-  groupMargins: { question: { cost: 12, count: 13 }, needs: ["election"], isText: true },
+  groupMargins: { question: { cost: 12, count: 13 }, needs: ["election"], tellsText: true },
   groupsPage: { needs: ["election"] },
 });
 

@@ -19,7 +19,7 @@ export interface ElectionObject {
   readonly declared_projects: string | null;
   readonly declared_voters: string | null;
   readonly other_selected: number;
-  readonly unused_columns: readonly string[];
+  readonly unused_columns: readonly ("weight" | "points" | "sign")[];
 }
 
 /** The first condition or test that is false, and where. */
@@ -42,6 +42,18 @@ export interface ReadObject {
   readonly election: ElectionObject;
 }
 
+/** The outcome that is asked about: how many projects it funds, and what they cost together. */
+export interface OutcomeObject {
+  readonly funded: number;
+  readonly cost: string;
+}
+
+/** A part of the limit, or what is missing of one, over the number of all voters. */
+export interface PartObject {
+  readonly numerator: string;
+  readonly denominator: number;
+}
+
 export interface GroupObject {
   readonly project: string;
   readonly number: number;
@@ -50,13 +62,14 @@ export interface GroupObject {
   readonly voters: number;
   readonly most: string;
   readonly need: string;
-  readonly share: { readonly numerator: string; readonly denominator: number };
+  readonly share: PartObject;
+  readonly missing: PartObject;
 }
 
 export interface GroupsObject extends Verdict<"groups"> {
   readonly measure: Measure;
   readonly group: GroupObject | null;
-  readonly outcome: { readonly funded: number; readonly cost: string };
+  readonly outcome: OutcomeObject;
 }
 
 export interface PricesObject extends Verdict<"prices"> {
@@ -83,6 +96,38 @@ export interface BothObject {
   readonly violation: ViolationObject;
 }
 
+/** The figures of a project by a price certificate, in grains. */
+export interface ProjectObject {
+  readonly project: string;
+  readonly number: number;
+  readonly funded: boolean;
+  readonly supporters: number;
+  readonly cost: string;
+  readonly paid: string;
+  readonly left: string;
+  readonly offer: string;
+}
+
+interface Table<Kind extends string> {
+  readonly kind: Kind;
+  readonly answer: "yes";
+  readonly version: 1;
+  readonly election: ElectionObject;
+  readonly outcome: OutcomeObject;
+}
+
+/** The table of margins of a price certificate. */
+export interface MarginsObject extends Table<"margins"> {
+  readonly grains_per_unit: number;
+  readonly projects: readonly ProjectObject[];
+}
+
+/** The table of margins of groups. */
+export interface GroupMarginsObject extends Table<"group_margins"> {
+  readonly measure: Measure;
+  readonly groups: readonly GroupObject[];
+}
+
 /** A file that is refused: which, the number and the name of its error, and the record at which it stands (0: at none). */
 export interface RefusalObject {
   readonly kind: "refusal";
@@ -94,7 +139,10 @@ export interface RefusalObject {
   readonly version: 1;
 }
 
-export type AnswerObject = ReadObject | VerdictObject | BothObject | RefusalObject;
+/** What is said in one line. */
+export type LineObject = ReadObject | VerdictObject | RefusalObject;
+
+export type AnswerObject = LineObject | BothObject | MarginsObject | GroupMarginsObject;
 
 /** The number of the refusal for want of an outcome. */
 export const NO_OUTCOME = 17;

@@ -17,7 +17,7 @@ export interface Beside {
   readonly hint: Hint | null;
 }
 
-/** What is told of a question: the answer as an object and as a text. A table and a certificate in its canonical form have no object. */
+/** What is told of a question: the answer as an object and as a text. A certificate in its canonical form has no object. */
 export interface Reply {
   readonly status: number;
   readonly beside: Beside;
@@ -36,12 +36,3 @@ export function replyIn(status: number, bytes: Uint8Array, hasObject: boolean): 
   const object = hasObject ? objectIn(decoded(bytes.subarray(behind, end))) as AnswerObject : undefined;
   return { status, beside, object, text: bytes.subarray(end) };
 }
-
-/** The first line of a text, with its end, and what stands behind it. */
-export function halves(text: string): [string, string] {
-  const end = text.indexOf("\n") + 1;
-  return [text.slice(0, end), text.slice(end)];
-}
-
-/** The first line of a text, without its end. */
-export const firstLine = (text: Uint8Array): string => decoded(text.subarray(0, text.indexOf(LINE_FEED)));

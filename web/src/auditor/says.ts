@@ -1,7 +1,7 @@
-/* What an answer says, by its object. */
+/* What an answer says, by its object, and the line that the program prints of that. */
 
 import type { Measure } from "./commands.js";
-import type { FailedObject, Proves, ReadObject, RefusalObject, VerdictObject } from "./objects.js";
+import type { FailedObject, LineObject, Proves, ReadObject, RefusalObject, VerdictObject } from "./objects.js";
 
 /** A yes to prices. */
 export interface Supported {
@@ -79,6 +79,11 @@ function failedOf(object: VerdictObject, { name, voter, project }: FailedObject)
   };
 }
 
+/** An object that the types let nobody hand over. */
+const noneSuch = (object: never): never => {
+  throw new TypeError(`this isn't said in one line: ${JSON.stringify(object)}`);
+};
+
 /** What a yes or a no says. */
 export function verdictOf(object: VerdictObject): Verdict {
   if (object.failed) return failedOf(object, object.failed);
@@ -87,11 +92,34 @@ export function verdictOf(object: VerdictObject): Verdict {
     case "prices": return { says: "supported", form: object.mode.stable ? "stable" : "priceable" };
     case "violation": return { says: "violation" };
     case "refutation": return { says: "unpriceable", ...PROVED[object.proves!] };
+    default: return noneSuch(object);
   }
 }
 
-/** What an answer says, but that to `both`, which says two things. */
-export function saidBy(object: ReadObject | VerdictObject | RefusalObject): Line {
+/** What an answer says. That to `both` says two things, and a table says nothing. */
+export function saidBy(object: LineObject): Line {
   if (object.kind === "election") return readLineOf(object);
   return object.kind === "refusal" ? refusedLineOf(object) : verdictOf(object);
+}
+
+const shortGroup = ({ measure, voters }: Failed): string => measure ? ` by ${measure} voters ${voters}` : "";
+const fundedIn = ({ funded }: ReadLine): string => funded === undefined ? "no outcome" : `${funded} funded`;
+
+function failedLine(failed: Failed): string {
+  const { condition, voter, project } = failed;
+  const at = `${voter === undefined ? "" : ` voter ${voter}`}${project === undefined ? "" : ` project ${project}`}`;
+  return `failed ${condition}${shortGroup(failed)}${at}`;
+}
+
+/** The line that the program prints of what an answer says. */
+export function lineOf(said: Line): string {
+  switch (said.says) {
+    case "read": return `read ${said.voters} voters ${said.projects} projects ${fundedIn(said)}`;
+    case "refused": return `refused ${said.input} ${said.number} ${said.name} record ${said.record}`;
+    case "supported": return `supported ${said.form}`;
+    case "violation": return "violation";
+    case "unpriceable": return `unpriceable${said.stable ? " stable" : ""}${said.cover ? " cover" : ""}`;
+    case "satisfied": return `satisfied ejr+ by ${said.measure}`;
+    case "failed": return failedLine(said);
+  }
 }

@@ -1,8 +1,7 @@
 /* What the package answers: the program's text and status, and what it says as facts. */
 
 import { electionOf } from "../auditor/elections.js";
-import { halves } from "../auditor/replies.js";
-import { readLineOf, refusedLineOf, verdictOf } from "../auditor/says.js";
+import { lineOf, readLineOf, refusedLineOf, verdictOf } from "../auditor/says.js";
 import { headlineOf, HEADLINES } from "../words/headlines.js";
 import type { Measure } from "../auditor/commands.js";
 import type { Note } from "../auditor/elections.js";
@@ -76,7 +75,10 @@ export interface Reading extends Said {
   readonly remarks: readonly Note[];
 }
 
-/** A verdict on prices and one on a violation, for one outcome. */
+/**
+ * A verdict on prices and one on a violation, for one outcome, each with its line as text. The program tells no notes on the
+ * election here. That a yes to the prices says little is in their `notes`.
+ */
 export interface Both extends Said {
   readonly status: 0 | 1;
   readonly answer: "yes" | "no";
@@ -128,9 +130,11 @@ export function readingIn(object: ReadObject, text: string, notes: readonly stri
   return { status: 0, answer: "read", ...facts, notes, remarks: electionOf(object.election).notes, text };
 }
 
-export function bothIn({ answer, prices, violation }: BothObject, text: string): Both {
-  const [first, second] = halves(text);
-  return { ...yesOrNo(answer), prices: verdictIn(prices, first, []), violation: verdictIn(violation, second, []), text };
+/** The only note that comes with `both` is that on a yes to the prices, which is theirs. */
+export function bothIn({ answer, prices, violation }: BothObject, text: string, notes: readonly string[]): Both {
+  const one = (object: VerdictObject, its: readonly string[]): Yes | No =>
+    verdictIn(object, `${lineOf(verdictOf(object))}\n`, its);
+  return { ...yesOrNo(answer), prices: one(prices, notes), violation: one(violation, []), text };
 }
 
 export function pageIn(object: VerdictObject, text: string, language: keyof typeof HEADLINES): Page {

@@ -75,7 +75,7 @@ const SAYS: { readonly [Name in CallName]: (call: Call) => Answers[Name] } = {
   prices: verdictBy("prices"),
   violation: verdictBy("violation"),
   refutation: verdictBy("refutation"),
-  both: call => call.answer("both", ({ object }, text) => bothIn(object as BothObject, text)),
+  both: call => call.answer("both", ({ object, beside }, text) => bothIn(object as BothObject, text, beside.notes)),
   explain: verdictBy("explain"),
   page: call => call.page("page"),
   margins: call => call.answer("margins", written),

@@ -1,10 +1,9 @@
 /* The report on a folder: a line for each file, and the total. */
 
-import { firstLine } from "../auditor/replies.js";
-import { saidBy } from "../auditor/says.js";
+import { lineOf, saidBy } from "../auditor/says.js";
 import { NO, REFUSED, YES } from "../auditor/statuses.js";
 import { ENDINGS } from "./entries.js";
-import type { AnswerObject, BothObject } from "../auditor/objects.js";
+import type { LineObject } from "../auditor/objects.js";
 import type { Reply } from "../auditor/replies.js";
 import type { Line } from "../auditor/says.js";
 import type { Entry, EntryRole } from "./entries.js";
@@ -18,12 +17,11 @@ export type OnEntry = (entry: Entry, does: (ask: AskEntry) => Row[]) => Row[];
 /** The command that is asked of each. */
 export const ASKED = { election: "read", prices: "prices", violation: "violation" } as const;
 
-/** What is said of a file: as facts, and as a line. */
+/** What is said of a file. */
 export interface Row {
   readonly role: EntryRole;
   readonly status: number;
   readonly says: Line;
-  readonly line: string;
 }
 
 /** What is said of the files of an election. */
@@ -36,8 +34,8 @@ export interface Found {
 function rowsOf(entry: Entry, ask: AskEntry): Row[] {
   const rows: Row[] = [];
   for (const role of entry.roles) {
-    const { status, object, text } = ask(role), says = saidBy(object as Exclude<AnswerObject, BothObject>);
-    rows.push({ role, status, says, line: firstLine(text) });
+    const { status, object } = ask(role), says = saidBy(object as LineObject);
+    rows.push({ role, status, says });
     if (role === "election" && status === REFUSED) break;
   }
   return rows;
@@ -57,7 +55,7 @@ function totalOf(found: readonly Found[]): Record<"yes" | "no" | "refused", numb
 export function reportOf(found: readonly Found[]): Report {
   const { yes, no, refused } = totalOf(found), nameOf = (name: string, { role }: Row): string => `${name}${ENDINGS[role]}`;
   const total = `total ${found.length} elections ${yes} yes ${no} no ${refused} refused`;
-  const lines = found.flatMap(({ name, rows }) => rows.map(row => `${nameOf(name, row)}: ${row.line}`));
+  const lines = found.flatMap(({ name, rows }) => rows.map(row => `${nameOf(name, row)}: ${lineOf(row.says)}`));
   const files = found.flatMap(({ name, rows }) => rows.map((row): Reported => ({ file: nameOf(name, row), says: row.says })));
   const text = [...lines, total].map(line => `${line}\n`).join("");
   return { status: refused > 0 ? 2 : no > 0 ? 1 : 0, answer: "report", files, text };

@@ -3,28 +3,23 @@
 import { ABOUT_PAGE, COMMANDS, isPage } from "../auditor/commands.js";
 import { electionOf } from "../auditor/elections.js";
 import { groupsOf } from "../auditor/groups.js";
-import { Teller } from "../auditor/kinds.js";
 import { NO_OUTCOME } from "../auditor/objects.js";
 import { refusedRole } from "../auditor/refusals.js";
-import { firstLine } from "../auditor/replies.js";
-import { saidBy } from "../auditor/says.js";
+import { lineOf, refusedLineOf, saidBy } from "../auditor/says.js";
 import { REFUSED } from "../auditor/statuses.js";
 import { excerptOf, sumOf } from "./bytes.js";
 import type { Auditor } from "../auditor/auditor.js";
 import type { Command, Measure, PageCommand, Place, Question, Row } from "../auditor/commands.js";
 import type { GroupsAnswer } from "../auditor/groups.js";
 import type { Kind } from "../auditor/kinds.js";
-import type { GroupsObject, RefusalObject } from "../auditor/objects.js";
+import type { GroupsObject, ReadObject, RefusalObject, VerdictObject } from "../auditor/objects.js";
 import type { Reply } from "../auditor/replies.js";
 import type { Answer, Ending, Files, Order, Refused, Rest, Says, Sums } from "./orders.js";
 
-/** What an answer says. */
-function saysOf({ object, text }: Reply): Says {
-  return {
-    line: firstLine(text), said: object && object.kind !== "both" ? saidBy(object) : undefined,
-    notes: object && "election" in object ? electionOf(object.election).notes : [],
-    groups: object?.kind === "prices" ? object.groups : null,
-  };
+/** What an answer says, of an election alone or of one certificate. */
+function saysOf(object: ReadObject | VerdictObject): Says {
+  const said = saidBy(object), { notes } = electionOf(object.election);
+  return { line: lineOf(said), said, notes, groups: object.kind === "prices" ? object.groups : null };
 }
 
 /** Whether a file is refused since it says of no project whether it is funded. */
@@ -65,7 +60,7 @@ export class Audit {
   private kindBy(command: Command, { object, beside }: Reply): Kind {
     const { certificate } = this.asked.files, { certificate: wanted }: Row = COMMANDS[command];
     if (!certificate) return "unknown";
-    if (beside.refusal) return new Teller(this.auditor).kindOf(certificate);
+    if (beside.refusal) return this.auditor.kindOf(certificate);
     if (object?.kind === "violation" || object?.kind === "refutation") return object.kind;
     return wanted ? "prices" : "unknown";
   }
@@ -78,10 +73,12 @@ export class Audit {
   }
 
   private answer(command: Command, reply: Reply): Ending {
-    const { object, status, text } = reply, { isText }: Row = COMMANDS[command];
-    const read = object?.kind === "election" ? { read: electionOf(object.election) } : {};
-    const kind = this.kindBy(command, reply), its = isText ? { text } : { ...saysOf(reply), ...read };
-    return { tells: "answer", status, kind, sums: this.sums, ...its };
+    const { status, text } = reply, { tellsText }: Row = COMMANDS[command], kind = this.kindBy(command, reply);
+    const answer = { tells: "answer", status, kind, sums: this.sums } as const;
+    if (tellsText) return { ...answer, text };
+    const object = reply.object as ReadObject | VerdictObject;
+    const read = object.kind === "election" ? { read: electionOf(object.election) } : {};
+    return { ...answer, ...saysOf(object), ...read };
   }
 
   /** The answer by cost comes first. */
@@ -89,7 +86,7 @@ export class Audit {
     const answerIn = ({ object }: Reply): GroupsAnswer => groupsOf(object as GroupsObject);
     const cost = answerIn(reply), kind = this.kindBy("groups", reply), { status } = reply;
     const answer = { tells: "answer", status, kind, read: cost.election, short: { cost } } as const;
-    return this.withRest({ ...answer, ...saysOf(reply) }, () =>
+    return this.withRest({ ...answer, ...saysOf(reply.object as GroupsObject) }, () =>
       ({ short: { cost, count: answerIn(this.report("groups", "count")) }, sums: this.sums }));
   }
 
@@ -104,16 +101,16 @@ export class Audit {
     if (command === "groupsPage") return answer;
     return this.withRest(answer, () => {
       const reply = this.report(about);
-      return { ...saysOf(reply), kind: this.kindBy(about, reply) };
+      return { ...saysOf(reply.object as VerdictObject), kind: this.kindBy(about, reply) };
     });
   }
 
   /** What is told of a refusal: what was refused, the file that it speaks of, its line, and why. */
   private refused(reply: Reply, fault: RefusalObject): Refused {
-    const { beside: { hint }, text } = reply, { files } = this.order;
+    const { beside: { hint } } = reply, { files } = this.order;
     const role = refusedRole(fault.input) as keyof Files, place = this.asked.files[role], line = hint?.line ?? 0;
     return {
-      tells: "refused", fault, text: new TextDecoder().decode(text).trim(), file: files[role]?.name ?? "", line,
+      tells: "refused", fault, text: lineOf(refusedLineOf(fault)), file: files[role]?.name ?? "", line,
       sentences: hint?.sentences ?? [], excerpt: place && line > 0 ? excerptOf(this.auditor.bytes(place), line) : "",
       kind: this.kindBy(this.order.command, reply), sums: this.sums,
     };

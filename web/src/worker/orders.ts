@@ -65,7 +65,7 @@ export type Sums = readonly string[];
  */
 export interface Says {
   readonly line: string;
-  readonly said?: Line;
+  readonly said: Line;
   readonly notes: readonly Note[];
   readonly groups: OnGroups | null;
 }

@@ -2,7 +2,6 @@
    went. */
 
 import { Auditor } from "../auditor/auditor.js";
-import { FRONT, GLANCE, Teller } from "../auditor/kinds.js";
 import { isOutOfMemory } from "../auditor/statuses.js";
 import { Sha256 } from "../files/sha256.js";
 import { Audit } from "./audit.js";
@@ -14,6 +13,8 @@ import type { Asked, Beginning, Ending, Files, KindsOrder, Message, Order, Sent,
 
 /** Of so many files the fronts are read together. */
 const AT_ONCE = 64;
+/** Of a longer file this much is looked at to tell its kind, and so much at first, which nearly always tells. */
+const FRONT = 1 << 20, GLANCE = 1 << 14;
 
 /** The files that were sent, by their numbers. */
 const sent: File[] = [];
@@ -67,13 +68,12 @@ async function frontOf(file: File, most: number): Promise<Uint8Array> {
   return new Uint8Array(await part.arrayBuffer().catch(() => new ArrayBuffer(0))).subarray(0, most);
 }
 
-/** What each file is, mostly by its first bytes alone. One that can't be read is of no kind, and so is one that is too long. */
+/** What each file is, mostly by its first bytes alone. One that can't be read is of no kind. */
 async function kindsOf(auditor: Auditor, { list }: KindsOrder): Promise<Ending> {
-  const teller = new Teller(auditor), place = auditor.room(FRONT);
-  const kinds: Kind[] = [];
+  const place = auditor.room(FRONT), kinds: Kind[] = [];
   const kindOf = (bytes: Uint8Array): Kind => {
     auditor.bytes(place).set(bytes);
-    return teller.kindOf({ at: place.at, length: BigInt(bytes.length) });
+    return auditor.kindOf({ at: place.at, length: BigInt(bytes.length) });
   };
   for (let at = 0; at < list.length; at += AT_ONCE) {
     const files = list.slice(at, at + AT_ONCE), fronts = await Promise.all(files.map(file => frontOf(file, GLANCE)));

@@ -131,6 +131,28 @@ const GROUPS_OBJECT: &str = "{\"answer\":\"no\",\"election\":{\"declared_project
     \"supporters\":2,\"voters\":2},\"kind\":\"groups\",\"measure\":\"cost\",\
     \"outcome\":{\"cost\":\"4000000\",\"funded\":1},\"version\":1}\n";
 
+/// Of the sample prices: what each project costs and what is paid for it, and what its supporters have left, of whom each
+/// could also offer what it pays for one.
+const MARGINS_OBJECT: &str = "{\"answer\":\"yes\",\"election\":{\"declared_projects\":3,\
+    \"declared_voters\":3,\"funded\":2,\"limit\":\"10000000\",\"other_selected\":0,\"projects\":3,\
+    \"unused_columns\":[],\"voters\":3},\"grains_per_unit\":1000000,\"kind\":\"margins\",\
+    \"outcome\":{\"cost\":\"10000000\",\"funded\":2},\"projects\":[\
+    {\"cost\":\"6000000\",\"funded\":true,\"left\":\"0\",\"number\":1,\"offer\":\"6000000\",\
+    \"paid\":\"6000000\",\"project\":\"a\",\"supporters\":2},\
+    {\"cost\":\"4000000\",\"funded\":true,\"left\":\"2000000\",\"number\":2,\"offer\":\"4000000\",\
+    \"paid\":\"4000000\",\"project\":\"b\",\"supporters\":2},\
+    {\"cost\":\"9000000\",\"funded\":false,\"left\":\"2000000\",\"number\":3,\"offer\":\"2000000\",\
+    \"paid\":\"0\",\"project\":\"c\",\"supporters\":1}],\"version\":1}\n";
+
+/// The third voter got one project, so the pool for 9 takes twice 9, and a third of 10 falls to it.
+const GROUP_MARGINS_OBJECT: &str = "{\"answer\":\"yes\",\"election\":{\"declared_projects\":3,\
+    \"declared_voters\":3,\"funded\":2,\"limit\":\"10000000\",\"other_selected\":0,\"projects\":3,\
+    \"unused_columns\":[],\"voters\":3},\"groups\":[{\
+    \"cost\":\"9000000\",\"missing\":{\"denominator\":3,\"numerator\":\"44000000\"},\"most\":\"1\",\
+    \"need\":\"18000000\",\"number\":3,\"project\":\"c\",\"share\":{\"denominator\":3,\"numerator\":\"10000000\"},\
+    \"supporters\":1,\"voters\":1}],\"kind\":\"group_margins\",\"measure\":\"count\",\
+    \"outcome\":{\"cost\":\"10000000\",\"funded\":2},\"version\":1}\n";
+
 /// The answer on them explained: of the share of 10 all is over that isn't needed.
 const EXPLAINED_GROUPS: &str = "\
 failed EJR+ by cost voters 2 project c
@@ -264,7 +286,7 @@ impl Command {
         }
     }
 
-    /// How the text begins that it answers as an object. Tables and canonical texts stay what they are.
+    /// How the text begins that it answers as an object. Canonical texts stay what they are.
     pub fn object(self) -> &'static str {
         match self {
             Command::Read => {
@@ -283,6 +305,8 @@ impl Command {
             Command::GroupsByCost | Command::ExplainGroups => GROUPS_OBJECT,
             Command::GroupsByCount => "{\"answer\":\"yes\",\"election\":{",
             Command::Both => "{\"answer\":\"no\",\"kind\":\"both\",\"prices\":{\"answer\":\"yes\",",
+            Command::Margins => MARGINS_OBJECT,
+            Command::GroupMargins => GROUP_MARGINS_OBJECT,
             _ => self.answer(),
         }
     }

@@ -2,9 +2,10 @@
 //! is tried from outside.
 use pb_certificate::{Measure, Refutation, Violation};
 use pb_cohesion::{
-    Cost, Count, MisplacedRows, MissingApprovals, RefutationFindings, RefutationVerdict,
-    Satisfaction, SatisfiedMembers, ViolationFailure, ViolationFindings, ViolationVerdict,
-    check_refutation, check_violation, cost_of_funded, refutation_findings, violation_findings,
+    Cost, Count, FailedAt, MisplacedRows, MissingApprovals, RefutationFailure, RefutationFindings,
+    RefutationVerdict, Satisfaction, SatisfiedMembers, ViolationFailure, ViolationFindings,
+    ViolationVerdict, check_refutation, check_violation, cost_of_funded, refutation_findings,
+    violation_findings,
 };
 use pb_election::{Election, Outcome};
 use pb_samples::files::{DEAR_ELECTION, ELECTION, REFUTATION, SMALL_SHARE_ELECTION, VIOLATION};
@@ -147,4 +148,53 @@ fn unpriceable_election(alloc: Global) -> Result<Election, Fail> {
 fn weights_refute_all_prices(rt: HostRuntime) -> Result<(), Fail> {
     let election = unpriceable_election(rt.alloc())?;
     expect_sample_refutes(&rt, rt.alloc(), &election)
+}
+
+/// A test that fails is to be told so.
+fn expect_told(
+    rt: &impl Abort,
+    failed: FailedAt,
+    number: u32,
+    name: &str,
+    voter: Option<u32>,
+    project: Option<u32>,
+) {
+    assert_eq!(rt; failed.number, number);
+    assert!(rt; failed.name == name);
+    assert_eq!(rt; failed.voter, voter);
+    assert_eq!(rt; failed.project, project);
+}
+
+#[test]
+fn failing_tests_are_told_by_number_and_name(rt: HostRuntime) -> Result<(), Fail> {
+    expect_told(&rt, ViolationFailure::V1.failed_at(), 11, "V1", None, None);
+    expect_told(
+        &rt,
+        ViolationFailure::V2(3, 5).failed_at(),
+        12,
+        "V2",
+        Some(3),
+        Some(5),
+    );
+    expect_told(&rt, ViolationFailure::V3.failed_at(), 13, "V3", None, None);
+    expect_told(
+        &rt,
+        ViolationFailure::V4(3).failed_at(),
+        14,
+        "V4",
+        Some(3),
+        None,
+    );
+    expect_told(
+        &rt,
+        RefutationFailure::U1(5).failed_at(),
+        21,
+        "U1",
+        None,
+        Some(5),
+    );
+    expect_told(&rt, RefutationFailure::U2.failed_at(), 22, "U2", None, None);
+    expect_told(&rt, RefutationFailure::U3.failed_at(), 23, "U3", None, None);
+    expect_told(&rt, FailedAt::short_for(5), 31, "EJR+", None, Some(5));
+    Ok(())
 }

@@ -139,6 +139,14 @@ fn gives_each_task(rt: HostRuntime) -> Result<(), Fail> {
             "Margins(Inputs { election: \"e.pb\", certificate: \"c.csv\", outcome: Some(\"o.csv\"), json: false })",
         ),
         (
+            "pbaudit margins e.pb --json c.csv",
+            "Margins(Inputs { election: \"e.pb\", certificate: \"c.csv\", outcome: None, json: true })",
+        ),
+        (
+            "pbaudit margins --json e.pb --groups",
+            "GroupMargins { inputs: OutcomeInputs { election: \"e.pb\", outcome: None, json: true }, measure: ByCost }",
+        ),
+        (
             "pbaudit tidy e.pb c.csv",
             "Tidy(Inputs { election: \"e.pb\", certificate: \"c.csv\", outcome: None, json: false })",
         ),
@@ -171,7 +179,7 @@ fn tells_help_from_usage(rt: HostRuntime) -> Result<(), Fail> {
         ("pbaudit violation e.pb v.csv --cover", "usage\n"),
         ("pbaudit prices e.pb c.csv --outcome", "usage\n"),
         ("pbaudit violation e.pb v.csv --stable", "usage\n"),
-        ("pbaudit margins e.pb c.csv --json", "usage\n"),
+        ("pbaudit tidy e.pb c.csv --json", "usage\n"),
         ("pbaudit page e.pb c.csv --json", "usage\n"),
         ("pbaudit refutation e.pb", "usage\n"),
         ("pbaudit refutation e.pb r.csv --cover", "usage\n"),
@@ -242,7 +250,7 @@ fn tells_help_from_usage(rt: HostRuntime) -> Result<(), Fail> {
         ),
         ("pbaudit explain --groups", "usage\n"),
         ("pbaudit explain e.pb --groups --groups", "usage\n"),
-        ("pbaudit margins e.pb --groups --json", "usage\n"),
+        ("pbaudit margins e.pb --groups --json=yes", "usage\n"),
         ("pbaudit margins e.pb --groups --cover", "usage\n"),
         (
             "pbaudit margins e.pb c.csv --groups",

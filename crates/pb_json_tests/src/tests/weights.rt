@@ -1,7 +1,7 @@
 //! Refutations.
 ghost use Rattle.std.specs.Prelude.{◌≡◌};
 ghost use Rattle.pb_election.specs.Instance.{projects};
-ghost use Rattle.pb_json.specs.Refutations.{VerdictNamesProject};
+ghost use Rattle.pb_cohesion.specs.Failed.{RefutationNamesProject};
 
 use super::common::{expect_text, hostile_decided};
 use pb_cohesion::{MisplacedRows, RefutationFailure, RefutationFindings, RefutationVerdict};
@@ -75,7 +75,7 @@ fn refutations_are_told(rt: HostRuntime) -> Result<(), Fail> {
 
 /// The verdicts that prove something, of any election.
 fn proving(_decided: &DecidedElection, which: u32) -> RefutationVerdict
-    ensures { VerdictNamesProject (_decided.now).election result }
+    ensures { RefutationNamesProject (_decided.now).election result }
 {
     match which {
         0 => RefutationVerdict::Unpriceable,

@@ -1,6 +1,4 @@
-use Rattle.std.proofs.Common.{◌∙◌, ap}
 use Rattle.std.proofs.lemmas.Result.{IfOk-weaker}
-use Rattle.pb_reply.specs.Replies.{answer_as}
 use Rattle.pb_reply.specs.Turns.{file_turn, turn}
 use Rattle.pb_audit.specs.InTurn.{ReadsAudit}
 use Rattle.pb_audit.proofs.Audits.{or_refusal_told}
@@ -12,7 +10,6 @@ returns-clause-told g c =
     (turn g.E.Given.delivers c.args.election.now c.audit_in_turn-work.new.election)
     (file_turn g.O.Given.delivers c.args.outcome.now c.audit_in_turn-work.new.outcome)
     (turn g.C.Given.delivers c.args.certificate.now c.audit_in_turn-work.new.certificate) in
-    let told = or_refusal_told (λ r. r) is_reply _ _ c.in_ok-reply.ensures c.audit_in_turn-work.ensures in
-    IfOk-weaker c.answer_as.result _ _
-    (λ answer is. record { reply = told.0; of_inputs = told.1.0; out = is ∙ ap (answer_as c.args.format) told.1.1 })
-    c.answer_as.ensures.text
+    let told = or_refusal_told g.A.Told.FromReply.told is_reply _ _ c.in_ok-told.ensures c.audit_in_turn-work.ensures in
+    IfOk-weaker c.in_format.result _ _ (λ answer is. record { reply = told.0; of_inputs = told.1.0; out = is })
+    (c.in_format.ensures.text told.0 told.1.1)

@@ -1,33 +1,22 @@
-use Rattle.std.proofs.Common.{refl, subst}
+use Rattle.std.proofs.Common.{◌∙◌, refl, subst}
 use Rattle.std.proofs.lemmas.Result.{IfOk-weaker}
 use Rattle.pb_certificate.specs.declared.violations.measure.Measure.{Measure}
 use Rattle.pb_cohesion.specs.Closest.{AreAllFigures}
-use Rattle.pb_election.specs.Instance.{Instance}
-use Rattle.pb_election.specs.Outcome.{Funding}
-use Rattle.pb_audit.proofs.FallingShort.{figures_told}
 use Rattle.pb_audit.proofs.figured.told_of.Goals as goal
 
 pub reply_on-requires : goal.reply_on-requires
-reply_on-requires g c =
-    let m = c.measure.result in
-    let o = c.args.decided.now.outcome in
-    let xs = c.in_ok-figures.figures.items in
-    figures_told m c.args.decided.now.election o.marks xs
-    (subst (λ (e : Instance). AreAllFigures m e o.marks xs) c.election-election.ensures
-    (subst (λ (w : Funding). AreAllFigures m c.election-election.result.now w.marks xs) c.outcome-outcome.ensures.value
-    c.in_ok-figures.ensures.figures))
-    c.in_ok-figures.ensures.small
+reply_on-requires g c = record {
+  told = c.in_ok-groups.ensures.told;
+  measure = c.in_ok-groups.ensures.measure ∙ c.measure.ensures;
+}
 
 pub returns : goal.returns
 returns g c =
     let e = c.args.decided.now.election in
     let o = c.args.decided.now.outcome in
-    let xs = c.in_ok-figures.figures.items in
+    let xs = c.in_ok-groups.groups.figures.items in
     let rules = g.A.FigureAudit.rules c.args.audit.now in
-    let figures = subst (λ (m : Measure). AreAllFigures m e o.marks xs) c.measure.ensures
-    (subst (λ (i : Instance). AreAllFigures c.measure.result i o.marks xs) c.election-election.ensures
-    (subst (λ (w : Funding). AreAllFigures c.measure.result c.election-election.result.now w.marks xs)
-    c.outcome-outcome.ensures.value c.in_ok-figures.ensures.figures)) in
+    let figures = subst (λ (m : Measure). AreAllFigures m e o.marks xs) c.measure.ensures c.in_ok-groups.ensures.figures in
     IfOk-weaker c.reply_on.result _ _
     (λ own is. (
       rules.reply e o.marks xs,

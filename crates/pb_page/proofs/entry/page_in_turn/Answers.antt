@@ -7,7 +7,7 @@ use Rattle.pb_reply.specs.Turns.{file_turn, turn}
 use Rattle.pb_reply.specs.Inside.Taking.{AuditsOutcome, IfTaken}
 use Rattle.pb_reply.specs.declared.unanswered.Unanswered.TheVariants.{Memory}
 use Rattle.pb_figures.specs.declared.amounts.Style.{Style}
-use Rattle.pb_figures.specs.declared.told.Told.{Told}
+use Rattle.pb_page.specs.declared.telling.PageTold.{PageTold}
 use Rattle.pb_page.specs.Sums.{sums_of}
 use Rattle.pb_page.specs.Taken.{RendersTold, TellsCertificate, sum_of}
 use Rattle.pb_page.proofs.InTurn.{answered, err-is, ended-at-certificate, ended-at-election, ended-at-outcome}
@@ -51,12 +51,12 @@ returns-in_err-told g c =
     c.file_given.ensures c.in_ok-decided.ensures.taken in
     let at_file =
     subst
-    (λ (f : Delivery). IfTaken {A = Told} (Err c.in_err-told.field-0.0)
+    (λ (f : Delivery). IfTaken {A = PageTold} (Err c.in_err-told.field-0.0)
     (TellsCertificate c.args.mode c.in_ok-decided.decided.election c.in_ok-decided.decided.outcome.marks f))
     c.as_file.ensures c.in_err-told.ensures.told in
     let states =
     subst
-    (λ (e : Instance). IfTaken {A = Told} (Err c.in_err-told.field-0.0)
+    (λ (e : Instance). IfTaken {A = PageTold} (Err c.in_err-told.field-0.0)
     (TellsCertificate c.args.mode e c.in_ok-decided.decided.outcome.marks (g.C.Taken.AsFile.delivery c.in_ok-certificate.certificate)))
     c.in_ok-decided.ensures.election at_file in
     rw is (

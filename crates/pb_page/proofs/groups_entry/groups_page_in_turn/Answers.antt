@@ -6,9 +6,8 @@ use Rattle.pb_reply.specs.Turns.{file_turn, turn}
 use Rattle.pb_reply.specs.Inside.Taking.{AuditsOutcome, IfTaken}
 use Rattle.pb_reply.specs.declared.unanswered.Unanswered.TheVariants.{Memory}
 use Rattle.pb_figures.specs.declared.amounts.Style.{Style}
-use Rattle.pb_page.specs.Groups.{TellsGroups}
 use Rattle.pb_page.specs.Sums.{sums_of}
-use Rattle.pb_page.specs.Taken.{RendersTold, sum_of}
+use Rattle.pb_page.specs.Taken.{RendersTold, TellsOfGroups, sum_of}
 use Rattle.pb_page.proofs.Groups.{groups-answered, groups-ended-at-election, groups-ended-at-outcome}
 use Rattle.pb_page.proofs.InTurn.{err-is}
 use Rattle.pb_page.proofs.groups_entry.groups_page_in_turn.Goals as goal
@@ -53,7 +52,7 @@ returns g c =
     subst (λ (o : Option Delivery). AuditsOutcome c.in_ok-taken.taken.election o (Ok c.in_ok-decided.decided.outcome.marks))
     c.file_given.ensures c.in_ok-decided.ensures.taken in
     let tells =
-    subst (λ (e : Instance). TellsGroups c.args.measure e c.in_ok-decided.decided.outcome.marks told)
+    subst (λ (e : Instance). TellsOfGroups c.args.measure e c.in_ok-decided.decided.outcome.marks told)
     c.in_ok-decided.ensures.election c.in_ok-told.ensures.told in
     let at_outcome =
     subst

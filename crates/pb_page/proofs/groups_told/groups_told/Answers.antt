@@ -1,26 +1,30 @@
-use Rattle.std.proofs.Common.{◌≡◌, ◌∙◌, List, ap, refl, rules, subst, sym}
-use Rattle.std.specs.Prelude.{All}
-use Rattle.pb_cohesion.specs.Shown.{AreSmall, shown}
-use Rattle.pb_cohesion.specs.declared.GroupFigures.{GroupFigures}
-use Rattle.pb_reply.proofs.Groups.{groups-name-project}
-use Rattle.pb_page.proofs.Groups.{tells-groups}
+use Rattle.std.proofs.Common.{false, refl, subst, true}
+use Rattle.std.specs.Prelude.{None, string_bytes}
+use Rattle.pb_case.specs.Shown.{ShowsLine}
+use Rattle.pb_election.specs.Instance.{Instance}
+use Rattle.pb_figures.specs.declared.told.CertificateFigures.TheVariants.{Groups}
+use Rattle.pb_reply.specs.Lines.{groups_line}
+use Rattle.pb_report.specs.Found.{groups_verdict}
+use Rattle.pb_page.proofs.Tells.{tells-of-groups}
 use Rattle.pb_page.proofs.groups_told.groups_told.Goals as goal
-
-pub shown_of-requires : goal.shown_of-requires
-shown_of-requires c =
-    subst (λ (xs : List GroupFigures). All AreSmall xs) (sym c.deref.ensures.value) c.in_ok-groups.ensures.small
-
-pub told_by-requires : goal.told_by-requires
-told_by-requires c =
-    groups-name-project c.args.measure c.election-election.result.now c.outcome-outcome.result.now.marks
-    c.in_ok-groups.groups.items c.in_ok-groups.ensures.figures
 
 pub returns-clause-told : goal.returns-clause-told
 returns-clause-told c =
-    let e = c.election-election.result.now in
-    let limit : c.millionths.result ≡ e.limit = search rules in
-    rw (sym c.election-election.ensures) (rw (sym c.outcome-outcome.ensures.value) (
-    tells-groups c.args.measure e c.outcome-outcome.result.now.marks c.told_by.result _ c.told_by.ensures.line
-    c.told_by.ensures.found c.in_ok-groups.ensures.figures refl (c.shown_of.ensures ∙ ap shown c.deref.ensures.value)
-    c.in_ok-costs_of.ensures limit c.cost_of_funded.ensures.value c.voters.ensures.value
-    ))
+    let groups = c.in_ok-groups.groups in
+    tells-of-groups c.args.measure c.args.decided.now.election c.args.decided.now.outcome.marks groups
+    c.in_ok-figures.figures
+    (record {
+      told = record {
+        style = c.args.style;
+        mode = record { stable = false; exhaustive = true; cover = false };
+        line = c.in_ok-line.line;
+        found = Groups c.in_ok-figures.figures;
+      };
+      nearest = None;
+      status = c.status-status.result;
+    })
+    c.in_ok-groups.ensures.measure c.in_ok-groups.ensures.figures c.in_ok-figures.ensures refl
+    (subst
+    (λ (e : Instance). ShowsLine (groups_line groups.measure e (groups_verdict groups)) (string_bytes c.in_ok-line.line))
+    c.election.ensures c.in_ok-line.ensures)
+    c.status-status.ensures

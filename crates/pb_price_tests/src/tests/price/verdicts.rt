@@ -140,3 +140,33 @@ fn steps_are_counted(rt: HostRuntime) -> Result<(), Fail> {
     }
     Ok(())
 }
+
+/// A condition that fails is to be told so.
+fn expect_told(
+    rt: &impl Abort,
+    failure: Failure,
+    number: u32,
+    name: &str,
+    voter: Option<u32>,
+    project: Option<u32>,
+) {
+    let failed = failure.failed_at();
+    assert_eq!(rt; failed.number, number);
+    assert!(rt; failed.name == name);
+    assert_eq!(rt; failed.voter, voter);
+    assert_eq!(rt; failed.project, project);
+}
+
+#[test]
+fn failing_conditions_are_told_by_number_and_name(rt: HostRuntime) -> Result<(), Fail> {
+    expect_told(&rt, Failure::Feasible, 1, "Feasible", None, None);
+    expect_told(&rt, Failure::Exhaustive(5), 2, "Exhaustive", None, Some(5));
+    expect_told(&rt, Failure::Cover, 3, "Cover", None, None);
+    expect_told(&rt, Failure::C1(3, 5), 4, "C1", Some(3), Some(5));
+    expect_told(&rt, Failure::C2(3), 5, "C2", Some(3), None);
+    expect_told(&rt, Failure::C3(5), 6, "C3", None, Some(5));
+    expect_told(&rt, Failure::C4(5), 7, "C4", None, Some(5));
+    expect_told(&rt, Failure::C5(5), 8, "C5", None, Some(5));
+    expect_told(&rt, Failure::S5(5), 9, "S5", None, Some(5));
+    Ok(())
+}

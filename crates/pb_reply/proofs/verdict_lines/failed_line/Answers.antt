@@ -3,12 +3,13 @@ use Rattle.std.specs.Prelude.{Option, codes, decimal}
 use Rattle.std.proofs.lemmas.Result.{IfOk-weaker}
 use Rattle.pb_election.specs.Instance.{Instance}
 use Rattle.pb_records.specs.Records.{Text}
-use Rattle.pb_reply.specs.Lines.{Failed, failed_line, project_words, voter_words}
+use Rattle.pb_cohesion.specs.Failed.{Failed}
+use Rattle.pb_reply.specs.Lines.{failed_line, project_words, voter_words}
 use Rattle.pb_reply.proofs.verdict_lines.failed_line.Goals as goal
 
 -- the line of what fails, by its name and its culprit
-failed-as : {v p : Option ℕ} (e : Instance) (f : Failed) (name culprit : Text) (voter project : Option ℕ)
-    → record { name = name; voter = v; project = p } ≡ f → v ≡ voter → p ≡ project
+failed-as : {k : ℕ} {v p : Option ℕ} (e : Instance) (f : Failed) (name culprit : Text) (voter project : Option ℕ)
+    → record { number = k; name = name; voter = v; project = p } ≡ f → v ≡ voter → p ≡ project
     → culprit ≡ voter_words voter ++ project_words e project → codes "failed " ++ (name ++ culprit) ≡ failed_line e f
 failed-as e f name culprit voter project is at_voter at_project said =
     rw (sym is, at_voter, at_project, said) (ap (λ t. codes "failed " ++ t) (sym (append_assoc name _ _)))

@@ -6,7 +6,8 @@ use pb_cohesion::ViolationFailure;
 use pb_election::ElectionFault;
 use pb_input::{InputFault, InputName};
 use pb_reply::{
-    Answer, Fault, Format, Reply, Status, Unmet, one_line, or_refusal, reply_why, unanswered_at,
+    Answer, Fault, Format, FromReply, InFormats, Reply, Status, Table, Unmet, one_line, or_refusal,
+    reply_why, unanswered_at,
 };
 use std::alloc::{AllocError, Global};
 use std::process::Abort;
@@ -58,6 +59,25 @@ fn a_reply_is_written_as_lines_or_as_an_object_or_as_both(rt: HostRuntime) -> Re
     let both = format!(in alloc; "{OBJECT}supported stable\nfailed V1\n")?;
     let answer = reply.answer_as(alloc, Format::JsonAndLines)?;
     expect_answer(&rt, &answer, &both, NO);
+    Ok(())
+}
+
+#[test]
+fn a_table_is_written_as_it_is_or_as_an_object_or_as_both(rt: HostRuntime) -> Result<(), Fail> {
+    let alloc = rt.alloc();
+    let both = format!(in alloc; "{OBJECT}supported stable\nfailed V1\n")?;
+    for (format, want) in [
+        (Format::Lines, "supported stable\nfailed V1\n"),
+        (Format::Json, OBJECT),
+        (Format::JsonAndLines, both.as_str()),
+    ] {
+        let table = Table::from_reply(alloc, reply(alloc)?)?;
+        assert_eq!(rt; table.status, NO);
+        let answer = table.in_format(alloc, format)?;
+        expect_answer(&rt, &answer, want, NO);
+        let answer = reply(alloc)?.in_format(alloc, format)?;
+        expect_answer(&rt, &answer, want, NO);
+    }
     Ok(())
 }
 
