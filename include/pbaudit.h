@@ -6,7 +6,7 @@
  *   0  yes: the answer is yes, or what was asked for is given
  *   1  no: a condition or a test failed, which the text names
  *   2  refused: a file has an error; the text says which file, and the first thing wrong
- *   3  there is no such question or language: *needed is 0 and out is as it was
+ *   3  there is no such question or language, or entry of a folder: *needed is 0 and out is as it was
  *   4  out of memory: likewise (that this comes only after a failed allocation is tested, and not proved)
  * Otherwise *needed is the length of the text in bytes, which ends in LF and has no NUL after it. If it is at most room,
  * the text stands at the front of out, and the rest of out is as it was. If it is more, out is as it was: call again
@@ -16,10 +16,11 @@
  * program (docs/FORMATS.md).
  *
  * What the caller has to make sure of, since nothing checks it:
- * - No pointer is null, even if its length or room is 0, nor is outcome if has_outcome is false.
- * - A file holds as many bytes as its length says, outcome even if has_outcome is false, and out as many as room.
- * - out, *needed and *facts overlap neither each other nor a file, and nothing else touches them during the call. The
- *   files do not change during the call.
+ * - No pointer is null, even if its length or room is 0, nor is outcome if has_outcome is false, or a file of an entry that
+ *   is missing or unread.
+ * - A file holds as many bytes as its length says, even one of these, and out as many as room.
+ * - out, *needed, *facts and *total overlap neither each other nor a file, and nothing else touches them during the call.
+ *   The files do not change during the call.
  * - A bool is 0 or 1.
  * - malloc, realloc and free are one allocator's. No call from a signal handler, nor from the forked child of a
  *   process with threads.
@@ -173,6 +174,37 @@ uint8_t pbaudit_groups_page(const uint8_t *election, size_t election_length,
                             bool by_count,
                             const uint8_t *language, size_t language_length,
                             pbaudit_facts *facts, uint8_t *out, size_t room, size_t *needed);
+
+/* How many files of a folder are answered how: how many elections there are, refused ones among them, how many certificates
+ * have a yes and how many a no, and how many files are refused. */
+typedef struct {
+    size_t elections, yes, no, refused;
+} pbaudit_total;
+
+/* What `pbaudit folder` prints on the files of one name, which is given without `.pb`: in a line their JSON object, and behind
+ * it their lines, as in
+ *   {"election":{..},"kind":"entry","name":"town","prices":{..},"version":1,"violation":null}
+ *   town.pb: read 3 voters 3 projects 2 funded
+ *   town.prices.csv: supported priceable
+ * election_state and its like say of a file PBAUDIT_FILE_MISSING, PBAUDIT_FILE_THERE or, where it couldn't be read,
+ * PBAUDIT_FILE_UNREAD. The total of these files goes to *total; those of all names add up to that of the folder. 0 where no
+ * file is refused and each certificate is answered yes, 1 where one is answered no and none is refused, and 2 where a file
+ * is refused. 3 where there is no such entry, and *total is all 0, as it is out of memory: where the election is missing, a
+ * state is none of these three, or the name is empty, isn't UTF-8 or has a control character. 0, 1, 2, 3 or 4. */
+enum {
+    PBAUDIT_FILE_MISSING = 0, PBAUDIT_FILE_THERE, PBAUDIT_FILE_UNREAD
+};
+uint8_t pbaudit_folder_entry(const uint8_t *name, size_t name_length,
+                             uint8_t election_state, const uint8_t *election, size_t election_length,
+                             uint8_t prices_state, const uint8_t *prices, size_t prices_length,
+                             uint8_t violation_state, const uint8_t *violation, size_t violation_length,
+                             bool stable, bool exhaustive, bool cover,
+                             pbaudit_total *total, uint8_t *out, size_t room, size_t *needed);
+
+/* What `pbaudit folder` prints of the total: in a line its JSON object, and behind it the line
+ * `total 2 elections 1 yes 0 no 1 refused`. 2 where a file is refused, 1 where none is and a certificate is answered no, and
+ * otherwise 0. 0, 1, 2 or 4. */
+uint8_t pbaudit_folder_total(const pbaudit_total *total, uint8_t *out, size_t room, size_t *needed);
 
 /* What a yes to a price certificate leaves open: the line `note: the voter budgets together are less than the limit, so
  * this yes says little`, or an empty text where they are not. The note holds of the files, whatever the answer is; where

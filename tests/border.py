@@ -60,6 +60,7 @@ def types_with(structs):
     for name, fields in structs.items():
         found[name] = type(name, (ctypes.Structure,), {"_fields_": [(field, found[kind]) for kind, field in fields]})
     found |= {f"{name} *": ctypes.POINTER(kind) for name, kind in found.items()}
+    found |= {f"const {name} *": found[f"{name} *"] for name in structs}
     return found | {"const uint8_t *": ctypes.c_char_p}
 
 
@@ -107,8 +108,8 @@ class Border:
         return self._called("python", self._in_python) | self._asked() | self._takes("switches", "stable") | self._answers()
 
     def _web(self):
-        facts = {f"facts take {ctypes.sizeof(self.types['pbaudit_facts'])} bytes"}
-        return self._called("web/src", shown_in_javascript) | self._asked() | self._takes("election", *_CERTIFICATES) | self._answers() | facts
+        rooms = {f"{name} takes {ctypes.sizeof(self.types[f'pbaudit_{name}'])} bytes" for name in ("facts", "total")}
+        return self._called("web/src", shown_in_javascript) | self._asked() | self._takes("election", *_CERTIFICATES) | self._answers() | rooms
 
     def _tests(self):
         structs = {name: [(self._in_python(*each), each[1]) for each in fields] for name, fields in self.structs.items()}

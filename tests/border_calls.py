@@ -17,20 +17,28 @@ from border_places import FILES, faults_of_formats, snake, text_at
 from common import HERE, TOP, needs, ran
 
 SWITCHES = ("has_outcome", "stable", "exhaustive", "cover", "by_count")
+# What can be on of an entry of a folder: which certificates it has, and what is asked of prices.
+OF_ENTRY = ("prices_state", "violation_state", "stable", "exhaustive", "cover")
 # How long each file and each text is that is handed over.
 LENGTHS = {"election": 100, "outcome": 101, "certificate": 102, "violation": 103, "election_name": 104, "outcome_name": 105,
-           "certificate_name": 106, "language": 107, "file": 108}  # fmt: skip
+           "certificate_name": 106, "language": 107, "file": 108, "name": 109, "prices": 110}  # fmt: skip
 BY_LENGTH = {length: f"{name}_length" for name, length in LENGTHS.items()}
 
 
 def words_in(calls, known, small="question"):
-    """What the words of the calls of a function are, by the first call, or by when they are on. A small number is what is asked for."""
-    first, *_ = calls.values()
-    for at, word in enumerate(first):
+    """What the words of the calls of a function are: a switch is named by when it is on, and the words behind it are told by the call
+    in which it alone is on, since a file may be there only then; others by the first call. A small number is what is asked for."""
+    told = first = [*calls.values()][0]
+    for at in range(len(first)):
         values = [words[at] if at < len(words) else None for words in calls.values()]
         if all(value in (0, 1) for value in values):
-            yield " and ".join(on for on, value in zip(calls, values) if value)
+            on = [on for on, value in zip(calls, values) if value]
+            # What is on in each call is the state of the election, without which there is no entry.
+            switch = " and ".join(on) if len(on) < len(calls) or len(on) == 1 else "election_state"
+            yield switch
+            told = calls.get(switch, told)
         else:
+            word = told[at]
             yield small if isinstance(word, int) and word < min(BY_LENGTH) else known.get(word, str(word))
 
 
@@ -65,6 +73,8 @@ class Function:
         if not self.calls:
             return {f"{self.name} is never called"}
         known, small = (OF_HINT, "input") if self.name == "pbaudit_hint" else (KNOWN, "question")
+        if any(word is None for words in self.calls.values() for word in words):
+            return {f"{self.name} is given no address"}
         kinds = [shown_in_python(kind) for kind in self.argtypes]
         given = itertools.zip_longest(kinds, words_in(self.calls, known, small), fillvalue="nothing")
         return lines_in_c({self.name if self.restype is ctypes.c_uint8 else f"{self.name} -> {self.restype}": [*given]})
@@ -98,7 +108,8 @@ def plain(words):
         elif at - 1 in rooms and word == len(words[at - 1]):
             yield "room"
         elif hasattr(word, "_obj"):
-            yield {ctypes.c_size_t: "needed" if at - 2 in rooms else "line", ctypes.c_uint8: "kind"}.get(type(word._obj), "facts")
+            named = {"c_ubyte": "kind", "TotalOfC": "total", "c_ulong_Array_4": "total", "c_ulong": "needed" if at - 2 in rooms else "line"}
+            yield named.get(type(word._obj).__name__, "facts")
         else:
             yield word
 
@@ -130,9 +141,18 @@ def asked(make, package):
     return caller, library
 
 
+def ask_of_entries(library, call, package, words_of):
+    """Asks about an entry, once with each certificate and once in each mode."""
+    for on in OF_ENTRY:
+        mode = package.Mode(on == "stable", on == "exhaustive", on == "cover")
+        library.ask(on, call, *words_of({kind: on == f"{kind}_state" for kind in ("prices", "violation")}, mode))
+
+
 def in_python(texts):
     package, files, places = (loaded(name, text_at(texts, f"{name}.py")) for name in ("_auditor", "files", "_places"))
-    _, library = asked(package._Library, package)
+    caller, library = asked(package._Library, package)
+    ask_of_entries(library, caller.ask_entry, package, lambda files, mode: [package.EntryFiles(VALUES["name"].decode(), {
+        "election": VALUES["election"], **{kind: VALUES[kind] for kind, is_there in files.items() if is_there}}, mode)])
     numbers = {("statuses", number, name) for name, number in vars(package).items() if type(number) is int}
     numbers |= {("other numbers", files.MOST_BYTES, "MOST_BYTES"), ("other numbers", places.LIBRARY.rpartition(".")[2], "LIBRARY")}
     return library.lines | {numbered(*each) for each in numbers} | {*asked_by_python(package)}
@@ -156,6 +176,9 @@ def in_tests(texts):
     for on in SWITCHES:
         library.ask(on, caller.says_of_groups, question_with(on, "both", package))
     library.ask("", caller.kind, VALUES["file"])
+    ask_of_entries(library, caller.entry, package, lambda files, mode: [
+        VALUES["name"], [("there", VALUES["election"]), *((tests.STATES[is_there], VALUES[kind]) for kind, is_there in files.items())], mode])
+    library.ask("", caller.of_total, (1, 2, 3, 4))
     for on, name in (("has_election", REFUSED[0]), ("", "election")):
         library.ask(on, caller.hint, question_with(on, "explain", package), tests.Facts(name, *REFUSED[1:]))
     structs = {f"pbaudit_{name.removesuffix('OfC').lower()}": [(shown_in_python(kind), field) for field, kind in it._fields_]
@@ -165,7 +188,7 @@ def in_tests(texts):
 
 def numbers_of_tests(tests):
     named = {"conditions and tests": tests.CULPRITS.items(), "inputs": enumerate(tests.INPUTS, 1), "groups": enumerate(tests.ON_GROUPS),
-             "file kinds": enumerate(tests.FILE_KINDS), "kinds": [(number, name) for name, number in tests.KINDS.items()]}  # fmt: skip
+             "file kinds": enumerate(tests.FILE_KINDS), "files of an entry": enumerate(tests.STATES), "kinds": [(number, name) for name, number in tests.KINDS.items()]}  # fmt: skip
     yield from (numbered(group, number, name) for group, rows in named.items() for number, name in rows if name)
     yield from (f"the certificate of {name} is of kind {number}" for name, number in tests.CERTIFICATES.items())
 
@@ -175,6 +198,8 @@ def numbers_of_tests(tests):
 OF_MODULE = "pbaudit_room"
 FAULTS = {name.lower() for _, name in faults_of_formats(FILES["FORMATS.md"][0].read_text(encoding="utf-8"))}
 NUMBER = re.compile(r"\b([A-Z][A-Z0-9_]+) = (\d+)[,;]")
+# The bytes of a total.
+TOTAL = 32
 # The addresses of what is handed over.
 PLACES = {1000 + at: name for at, name in enumerate(LENGTHS)}
 
@@ -183,7 +208,7 @@ def in_web(texts):
     told = told_by_scripts({path.rpartition("/")[2]: text for path, text in texts.items() if path.startswith("web/src/auditor/")})
     calls = collections.defaultdict(dict)
     for call in told["calls"]:
-        if call["command"] in ("both", "page", "groupsPage", "kindOf"):
+        if call["command"] in ("both", "page", "groupsPage", "kindOf", "entry", "ofTotal"):
             calls[call["name"]][call["on"]] = call
     text = "\n".join(texts.values())
     unseen = {*re.findall(r"[\"'`](pbaudit_\w+)", text)} - {*calls, OF_MODULE}
@@ -191,13 +216,13 @@ def in_web(texts):
     numbers |= {("file kinds", number, name) for number, name in enumerate(told["kinds"])}
     numbers |= {("faults", number, name) for name, number in NUMBER.findall(text) if name.replace("_", "").lower() in FAULTS}
     return (lines_in_c({name: of_scripts(asked) for name, asked in calls.items()}) | {f"{name} is never called" for name in unseen}
-            | {numbered(*each) for each in numbers} | {*facts_of(told["calls"]), *asked_by_scripts(told)})  # fmt: skip
+            | {numbered(*each) for each in numbers} | {*rooms_in(told["calls"]), *asked_by_scripts(told)})  # fmt: skip
 
 
 def told_by_scripts(scripts):
     """What border.js tells of the scripts of the auditor."""
     needs("node", "esbuild")
-    given = {"switches": SWITCHES, "places": {name: [at, LENGTHS[name]] for at, name in PLACES.items()}}
+    given = {"switches": SWITCHES, "ofEntry": OF_ENTRY, "places": {name: [at, LENGTHS[name]] for at, name in PLACES.items()}}
     with tempfile.TemporaryDirectory() as folder:
         for name, text in scripts.items():
             pathlib.Path(folder, name).write_text(text, encoding="utf-8")
@@ -210,7 +235,10 @@ def of_scripts(asked):
     """The types and the words of the calls of a function."""
     words = {on: [*plain_in(call)] for on, call in asked.items()}
     kinds = [kind for kind, _ in [*asked.values()][0]["words"]]
-    return [*zip(kinds, words_in(words, BY_LENGTH))]
+    told = [*words_in(words, BY_LENGTH)]
+    addresses = [at for at, (kind, word) in enumerate(zip(kinds, told)) if kind == "bigint" and not word.endswith("_length")]
+    is_null = any(call[at] == 0 for call in words.values() for at in addresses if at < len(call))
+    return [*zip(kinds, told), *[("no", "address")] * is_null]
 
 
 def plain_in(call):
@@ -222,17 +250,17 @@ def plain_in(call):
         if at in outs or at - 1 in outs:
             yield "out" if at in outs else "room"
         elif word in rooms:
-            yield "needed" if at - 2 in outs else "kind" if rooms[word] == 1 else "facts"
+            yield "needed" if at - 2 in outs else {1: "kind", TOTAL: "total"}.get(rooms[word], "facts")
         else:
             yield PLACES.get(word, word)
 
 
-def facts_of(calls):
-    """How much room there is for facts."""
+def rooms_in(calls):
+    """How much room there is for facts, and for a total."""
     for call in calls:
         for (_, number), word in zip(call["words"], plain_in(call)):
-            if word == "facts":
-                yield f"facts take {call['rooms'][str(number)]} bytes"
+            if word in ("facts", "total"):
+                yield f"{word} takes {call['rooms'][str(number)]} bytes"
 
 
 def asked_by_scripts(told):

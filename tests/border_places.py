@@ -11,7 +11,7 @@ CRATE, PACKAGE = TOP / "crates/pb_c/src", TOP / "python/pbaudit"
 FILES = {
     "header": [TOP / "include/pbaudit.h"],
     "crates": [*CRATE.glob("*.rt"), *(TOP / "crates" / path for path in (
-        "pb_cohesion/src/failed.rt", "pb_price/src/telling.rt", "pb_reply/src/loaded.rt"))],
+        "pb_audit/src/total.rt", "pb_cohesion/src/failed.rt", "pb_price/src/telling.rt", "pb_reply/src/loaded.rt"))],
     "python": [PACKAGE / name for name in ("_auditor.py", "_places.py", "files.py")],
     "web/src": [*(TOP / "web/src").rglob("*.ts")],
     "tests": [HERE / "c_library.py"],
@@ -83,8 +83,9 @@ def told_by_comments(text):
 
 
 # Types of the crates. The allocator is no parameter of C, and `record` is a word of Rattle's own.
-OF_RATTLE = {"u8": "uint8_t", "u32": "uint32_t", "u64": "uint64_t", "bool": "bool", "Culprit": "pbaudit_culprit",
-             "&mut usize": "size_t *", "&mut u8": "uint8_t *", "&mut u64": "uint64_t *", "&mut Facts": "pbaudit_facts *"}  # fmt: skip
+OF_RATTLE = {"u8": "uint8_t", "u32": "uint32_t", "u64": "uint64_t", "usize": "size_t", "bool": "bool", "Culprit": "pbaudit_culprit",
+             "&mut usize": "size_t *", "&mut u8": "uint8_t *", "&mut u64": "uint64_t *", "&mut Facts": "pbaudit_facts *",
+             "&mut Total": "pbaudit_total *", "&Total": "const pbaudit_total *"}  # fmt: skip
 RENAMED = {"record_number": "record"}
 EXPORT = re.compile(r'^(#\[unsafe\(no_mangle\)\]\n)?pub extern "C" fn (\w+)\((.*?)\) -> (\w+)$', re.DOTALL | re.MULTILINE)
 STRUCT = re.compile(r"^#\[repr\(C\)\]\n(?:#\[derive[^\n]*\n)?pub struct (\w+) \{(.*?)\n\}", re.DOTALL | re.MULTILINE)
@@ -125,7 +126,8 @@ def snake(name):
 
 
 def numbers_in_crates(texts):
-    facts, faults, groups, kinds, report = (text_at(texts, f"pb_c/src/{name}.rt") for name in ("facts", "faults", "groups", "kinds", "report"))
+    names = ("facts", "faults", "folders", "groups", "kinds", "report")
+    facts, faults, folders, groups, kinds, report = (text_at(texts, f"pb_c/src/{name}.rt") for name in names)
     failing = "\n".join(text_at(texts, path) for path in ("pb_cohesion/src/failed.rt", "pb_price/src/telling.rt"))
     [short] = re.findall(r"fn short_for\(.*?FailedAt::new\((\d+),", failing, re.DOTALL)
     constants = re.findall(r"^(?:pub\(crate\) )?const (\w+): \w+ = ([\d_]+);", "\n".join(texts.values()), re.MULTILINE)
@@ -136,7 +138,8 @@ def numbers_in_crates(texts):
              "file kinds": re.findall(r"(?:FileKind::)?(\w+)\)? => (\d+),", kinds),
              "statuses": re.findall(r"Status::(\w+)(?:\(_\))? => (\d+),", report),
              "other numbers": [(name, int(number.replace("_", ""))) for name, number in constants]}  # fmt: skip
-    behind = {"kinds": re.findall(r"(\d+) => Some\(FileKind::(\w+)\)", faults),
+    behind = {"files of an entry": re.findall(r"(\d+) => Some\((?:Some\(File::)?(\w+)", folders),
+              "kinds": re.findall(r"(\d+) => Some\(FileKind::(\w+)\)", faults),
               "faults": re.findall(r"(\d+) => (?:Some\()?(\w+Fault::\w+)\)?,", faults)}  # fmt: skip
     yield from (numbered(group, number, name) for group, rows in ahead.items() for name, number in rows)
     yield from (numbered(group, number, name) for group, rows in behind.items() for number, name in rows)

@@ -13,6 +13,8 @@ CULPRITS = {**dict(enumerate(("Feasible", "Exhaustive", "Cover", "C1", "C2", "C3
 ON_GROUPS = (None, "little", "weak", "strict")
 # What a file is by its first record, of which 0 tells that it is none of these.
 FILE_KINDS = (None, "election", "outcome", "prices", "violation", "refutation")
+# How a file of an entry of a folder is.
+STATES = ("missing", "there", "unread")
 # What kind of file a hint is on, by the input, or of a certificate by the command.
 KINDS = {"election": 0, "outcome": 1, "prices": 2, "violation": 3}
 CERTIFICATES = {"prices": 2, "violation": 3, "refutation": 5, "margins": 2, "tidy": 2, "explain": 4, "page": 4}
@@ -67,6 +69,15 @@ class FactsOfC(ctypes.Structure):
         return Facts(refused, self.fault, self.record, self.condition.value(), self.test.value())
 
 
+class TotalOfC(ctypes.Structure):
+    """The header's `pbaudit_total`."""
+
+    _fields_ = [(name, ctypes.c_size_t) for name in ("elections", "yes", "no", "refused")]
+
+    def value(self):
+        return tuple(getattr(self, name) for name, _ in self._fields_)
+
+
 class Library:
     """Calls the library as a program in C does. The files of a call are those of a question of the package."""
 
@@ -81,6 +92,8 @@ class Library:
     _GROUPS_PAGE = [*_FILE, *_FILE, *_FILE, *_OUTCOME, ctypes.c_bool, *_FILE, _FACTS]
     _GROUPS = [*_FILE, *_FILE, ctypes.c_bool]
     _KIND = [*_FILE, ctypes.POINTER(ctypes.c_uint8)]
+    _TOTAL = ctypes.POINTER(TotalOfC)
+    _ENTRY = [*_FILE, *([ctypes.c_uint8, *_FILE] * 3), *_MODE, _TOTAL]
     _HINT = [ctypes.c_uint8, ctypes.c_uint32, ctypes.c_uint64, *_FILE, *_OUTCOME, ctypes.POINTER(ctypes.c_uint64)]
 
     def __init__(self, path):
@@ -91,6 +104,8 @@ class Library:
         self._groups = self._function(library, "groups", self._GROUPS)
         self._kind = self._function(library, "kind", self._KIND)
         self._hint = self._function(library, "hint", self._HINT + self._OUT)
+        self._entry = self._function(library, "folder_entry", self._ENTRY + self._OUT)
+        self._of_total = self._function(library, "folder_total", [self._TOTAL] + self._OUT)
 
     @staticmethod
     def _function(library, name, types):
@@ -118,6 +133,19 @@ class Library:
         kind = ctypes.c_uint8(99)
         assert self._kind(file, len(file), ctypes.byref(kind)) == 0
         return FILE_KINDS[kind.value]
+
+    def entry(self, name, files, mode):
+        """What is told of an entry, by its files: each how it is, or its number, with its bytes. The status, the text and the total."""
+        words = [name, len(name)]
+        for state, data in files:
+            words += [state if isinstance(state, int) else STATES.index(state), data, len(data)]
+        total = TotalOfC(*[99] * 4)
+        status, text = self._call(self._entry, [*words, mode.stable, mode.exhaustive, mode.cover, ctypes.byref(total)])
+        return status, text, total.value()
+
+    def of_total(self, total):
+        """How the report on a folder of this total ends, and what is told of it."""
+        return self._call(self._of_total, [ctypes.byref(TotalOfC(*total))])
 
     def hint(self, question, facts):
         """The line and the text of a hint."""

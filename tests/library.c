@@ -8,6 +8,8 @@
    library once kind - FILE            the text is its number
    library once hint INPUT:NUMBER:RECORD FILE [ELECTION]
    library once report-COMMAND ..  the same of pbaudit_report
+   library once entry SWITCHES ELECTION [PRICES [VIOLATION]]   the files are of the name `town`
+   library once total ELECTIONS:YES:NO:REFUSED FILE            the file isn't looked at
                      prints the text, and ends with the status; each buffer is as large as it has to be, and no larger.
                      It calls the functions of the header that have names of commands
    library facts ..  calls pbaudit_answer, as those below do, and prints the bytes of its facts ahead of the text
@@ -87,6 +89,24 @@ static void call_kind(void) {
         out[0] = (uint8_t)('0' + kind);
 }
 
+static pbaudit_total total;
+
+/* The total counts one election, and none where memory ran out. */
+static void call_entry(void) {
+    uint8_t has_prices = given > 1, has_violation = given > 2;
+    static const uint8_t name[] = {'t', 'o', 'w', 'n'};
+    status = pbaudit_folder_entry(name, sizeof name, PBAUDIT_FILE_THERE, IN(0), has_prices, IN(1), has_violation, IN(2), MODE, &total, OUT);
+    if (total.elections != (status < 4) || (status == 4 && (total.yes || total.no || total.refused)))
+        exit(9);
+}
+
+static void call_total(void) {
+    pbaudit_total of;
+    if (sscanf(switches, "%zu:%zu:%zu:%zu", &of.elections, &of.yes, &of.no, &of.refused) != 4)
+        exit(3);
+    status = pbaudit_folder_total(&of, OUT);
+}
+
 static uint8_t refuted(int has_outcome) {
     int is_stable = strchr(switches, 's') != 0;
     return (is_stable ? pbaudit_stable_refutation : pbaudit_refutation)(IN(0), IN(2), has_outcome, IN(1), OUT);
@@ -101,6 +121,10 @@ static void call(void) {
         call_hint();
     else if (!strcmp(command, "kind"))
         call_kind();
+    else if (!strcmp(command, "entry"))
+        call_entry();
+    else if (!strcmp(command, "total"))
+        call_total();
     else if (!strcmp(command, "note"))
         status = pbaudit_note(IN(0), IN(1), OUT);
     else if (!strcmp(command, "groups"))
@@ -152,7 +176,11 @@ static void load(int at, const char *path) {
 static int has_told(pbaudit_facts wanted) { return !memcmp(&facts, &wanted, sizeof facts); }
 
 static int tells_facts(void) {
-    return !as_report && strcmp(command, "note") && strcmp(command, "hint") && strcmp(command, "groups") && strcmp(command, "kind");
+    static const char *const others[] = {"note", "hint", "groups", "kind", "entry", "total"};
+    for (size_t at = 0; at < sizeof others / sizeof *others; at++)
+        if (!strcmp(command, others[at]))
+            return 0;
+    return !as_report;
 }
 
 static void fail_each(void) {

@@ -1,4 +1,5 @@
-"""What `pbaudit folder` prints and tells, that examples/many.sh does the same by many processes, and the Python package with pages."""
+"""What `pbaudit folder` prints and tells, and that the parts of the C library come to the same, examples/many.sh by many processes, and
+the Python package with pages."""
 import contextlib
 import fcntl
 import os
@@ -14,6 +15,8 @@ import pytest
 
 import tables
 from common import LIBRARY_NAME, TOP, needs, script
+from pbaudit import _auditor
+from pbaudit.files import MOST_BYTES
 
 ANSWERS = tables.Table("answers.txt").files
 SAMPLE, PRICES, FAIR = ANSWERS["sample.pb"], ANSWERS["sample.prices.csv"], ANSWERS["fair.violation.csv"]
@@ -360,3 +363,63 @@ def test_many(program, folders, way, words):
     assert (many.returncode, many.stdout, many.stderr) == (one.returncode, one.stdout, one.stderr)
     if "PARALLEL" in environment and words.startswith("elections") and "unknown" not in words:
         assert set(machines.read_text().split()) == {"one", "two"}
+
+
+def file_in(folder, name):
+    """How a file of a folder is, with its bytes."""
+    path = os.path.join(folder, name)
+    # There is none of a name that is too long.
+    if not os.path.isfile(path) or os.path.islink(path):
+        return "missing", b""
+    try:
+        with open(path, "rb") as file:
+            return "there", file.read(MOST_BYTES + 1)
+    except PermissionError:
+        return "unread", b""
+
+
+def entries_in(folder):
+    """The name of each election of a folder, in order, with its files."""
+    names = (path.name.removesuffix(".pb") for path in folder.iterdir() if path.name.endswith(".pb"))
+    for name in sorted(names, key=str.encode):
+        files = [file_in(folder, f"{name}{ending}") for ending in (".pb", ".prices.csv", ".violation.csv")]
+        if files[0][0] != "missing" and name and not any(letter < " " or letter == "\x7f" for letter in name):
+            yield name.encode(), files
+
+
+@pytest.mark.parametrize("words", ["", "--stable", "--no-exhaustive --cover"])
+@pytest.mark.parametrize("name", ["elections", "none", "misses"])
+def test_parts_of_the_c_library(program, c_library, folders, name, words):
+    """Put together they are the report, as lines and as objects, and the totals of the entries add up."""
+    options = [*words.split(), name]
+    lines, objects = (subprocess.run([program, "folder", *more, *options], cwd=folders, capture_output=True, check=False)
+                      for more in ([], ["--json"]))  # fmt: skip
+    mode = _auditor.Mode("--stable" in options, "--no-exhaustive" not in options, "--cover" in options)
+    parts = [c_library.entry(entry, files, mode) for entry, files in entries_in(folders / name)]
+    total = tuple(map(sum, zip((0, 0, 0, 0), *(part[2] for part in parts))))
+    status, end = c_library.of_total(total)
+    cut = [text.split(b"\n", 1) for text in (*(part[1] for part in parts), end)]
+    assert b"".join(text for _, text in cut) == lines.stdout
+    assert b"".join(line + b"\n" for line, _ in cut) == objects.stdout
+    assert status == lines.returncode == objects.returncode == max((part[0] for part in parts), default=0)
+
+
+def test_part_of_the_c_library_on_files_that_cant_be_read(c_library):
+    """An election that can't be read is refused, and its certificates aren't told of."""
+    mode, there = _auditor.Mode(), ("there", SAMPLE)
+    status, text, total = c_library.entry(b"town", [("unread", SAMPLE), ("there", PRICES), ("missing", b"")], mode)
+    assert (status, text.split(b"\n", 1)[1], total) == (2, b"town.pb: refused election 18 Read record 0\n", (1, 0, 0, 1))
+    status, text, total = c_library.entry(b"town", [there, ("unread", PRICES), ("unread", FAIR)], mode)
+    assert text.split(b"\n", 1)[1].decode() == (
+        f"town.pb: {READ}\ntown.prices.csv: refused certificate 18 Read record 0\ntown.violation.csv: refused certificate 18 Read record 0\n")
+    assert (status, total) == (2, (1, 0, 0, 2))
+
+
+@pytest.mark.parametrize("name, states", [
+    (b"", ("there", "missing", "missing")), (b"a\nb", ("there", "missing", "missing")), (b"a\x7f", ("there", "missing", "missing")),
+    (b"\xff", ("there", "missing", "missing")), (b"town", ("missing", "there", "missing")), (b"town", (3, "missing", "missing")),
+    (b"town", ("there", 3, "missing")), (b"town", ("there", "missing", 255)),
+])  # fmt: skip
+def test_no_such_entry_of_the_c_library(c_library, name, states):
+    status, text, total = c_library.entry(name, [(state, SAMPLE) for state in states], _auditor.Mode())
+    assert (status, text, total) == (3, b"", (0, 0, 0, 0))

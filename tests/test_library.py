@@ -61,6 +61,19 @@ CALLS = {
     "hint 6:21:1 sample.outcome.csv": "",
     "hint 2:14:3 sample.outcome.csv": "record 3: the vote names something that is no project's id\n",
 }  # fmt: skip
+# Calls of library.c for the parts of a report on a folder, each with its status and its text but for the object in the first line.
+ENTRIES = {
+    "entry e sample.pb": (0, "town.pb: read 3 voters 3 projects 2 funded\n"),
+    "entry e sample.pb sample.prices.csv": (0, "town.pb: read 3 voters 3 projects 2 funded\ntown.prices.csv: supported priceable\n"),
+    "entry e hall.pb hall.prices.csv hall.violation.csv": (
+        0, "town.pb: read 3 voters 3 projects 1 funded\ntown.prices.csv: supported priceable\ntown.violation.csv: violation\n"),
+    "entry se hall.pb hall.prices.csv hall.violation.csv": (
+        1, "town.pb: read 3 voters 3 projects 1 funded\ntown.prices.csv: failed S5 project dance\ntown.violation.csv: violation\n"),
+    "entry e sample.prices.csv sample.prices.csv": (2, "town.pb: refused election 2 NoMeta record 1\n"),
+    "total 3:1:0:0 sample.pb": (0, "total 3 elections 1 yes 0 no 0 refused\n"),
+    "total 2:1:4:0 sample.pb": (1, "total 2 elections 1 yes 4 no 0 refused\n"),
+    "total 12:10:4:1 sample.pb": (2, "total 12 elections 10 yes 4 no 1 refused\n"),
+}  # fmt: skip
 # What the table of groups asks of the examples with --groups.
 ON_GROUP_FIGURES = [
     pytest.param(words, row.text.encode(), row.status, id=" ".join(words)) for row, words, files in tables.asked("groups.txt")
@@ -102,7 +115,7 @@ def test_symbols_are_the_functions_of_the_header(library, name):
     interface, functions = interface_of(library / "pbaudit.h")
     version = f"PBAUDIT_{interface}"
     assert sorted(symbols) == sorted([version, *(f"{each}@@{version}" for each in functions)] if is_shared else functions)
-    assert len(functions) == 9
+    assert len(functions) == 11
 
 
 def test_shared_library_has_the_name_of_its_interface(library):
@@ -300,6 +313,16 @@ def calling(request, built, caller, library):
 def test_call(calling, words, text, status):
     told = told_by([*calling, "once", *words])
     assert (told.returncode, told.stdout, told.stderr) == (status, text, b"")
+
+
+@pytest.mark.parametrize("call", ENTRIES)
+def test_part_of_a_report_on_a_folder(calling, caller, call):
+    """Also where each allocation fails, and on a small stack."""
+    status, lines = ENTRIES[call]
+    told = told_by([*calling, "once", *call.split(" ")])
+    assert (told.returncode, told.stdout.split(b"\n", 1)[1].decode(), told.stderr) == (status, lines, b"")
+    assert sum(numbers_of([caller, "memory", *call.split(" ")])) > 0
+    assert 0 < numbers_of([caller, "stack", *call.split(" ")])[0] < SMALL_STACK
 
 
 @on_examples

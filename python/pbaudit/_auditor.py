@@ -15,7 +15,7 @@ from dataclasses import dataclass, replace
 from typing import Any, Callable, Dict, List, Literal, Optional, Protocol, Tuple, Union
 
 from . import _places
-from .objects import Found, election_notes, object_of
+from .objects import Found, election_notes, entry_in, object_of, unread_entry, unread_of
 from .records import line_of_record
 
 _HOW_TO_BUILD = (
@@ -56,6 +56,11 @@ class Mode:
             object.__setattr__(self, name, switch(name, value))
 
     @property
+    def switches(self) -> List[bool]:
+        """Its switches in the order of the library."""
+        return [self.stable, self.exhaustive, self.cover]
+
+    @property
     def options(self) -> List[str]:
         """The options of a command that ask for it."""
         options = [("--stable", self.stable), ("--no-exhaustive", not self.exhaustive), ("--cover", self.cover)]
@@ -85,6 +90,16 @@ class Question:
     mode: Mode = Mode()
     page: PageWords = PageWords()
     satisfaction: Satisfaction = "cost"
+
+
+@dataclass(frozen=True)
+class EntryFiles:
+    """The files of one name in a folder, as bytes, or None for one that couldn't be read: `election`, and `prices` and
+    `violation` where they are there; and in which mode prices are audited."""
+
+    name: str
+    files: Dict[str, Optional[bytes]]
+    mode: Mode = Mode()
 
 
 @dataclass(frozen=True)
@@ -119,10 +134,15 @@ class Auditor(Protocol):
     def ask(self, question: Question) -> Report:
         """What answers a question."""
 
+    def ask_entry(self, entry: EntryFiles) -> Found:
+        """The object of `pbaudit folder --json` on the files of one name."""
+
     def has(self, command: str) -> bool:
         """Whether it has this command, which an older program may lack."""
 
 
+# How the names of a folder's files end.
+ENDINGS = {"election": ".pb", "prices": ".prices.csv", "violation": ".violation.csv"}
 # What the library can be asked, by its numbers from 0.
 _QUESTIONS = ("read", "prices", "violation", "refutation", "both", "explain", "margins", "tidy", "groups_by_cost",
               "groups_by_count", "explain_groups_by_cost", "explain_groups_by_count", "group_margins_by_cost",
@@ -141,6 +161,7 @@ _OF_SAME_FILES = {"tidy": "prices", "page": "explain", "groups_page": "groups"}
 _NOTHING_FUNDED = b"pb-outcome,1\n"
 _OUT_OF_MEMORY = "pbaudit: fault memory"
 _REFUSED, _USAGE, _MEMORY = 2, 3, 4
+_MISSING, _THERE, _UNREAD = 0, 1, 2
 
 
 class _Library:
@@ -150,19 +171,22 @@ class _Library:
     _FILE = [ctypes.c_char_p, _SIZE]
     _OUTCOME = _FILE + [ctypes.c_bool]
     _MODE = [ctypes.c_bool] * 3
-    # As much room as `pbaudit_facts` takes, which a page fills, and which nothing is read from here.
-    FACTS = ctypes.c_uint64 * 5
-    _FACTS = ctypes.POINTER(FACTS)
+    # As much room as `pbaudit_facts` takes, which a page fills, and `pbaudit_total`, which an entry of a folder does. Nothing is
+    # read from either here.
+    FACTS, TOTAL = ctypes.c_uint64 * 5, _SIZE * 4
+    _FACTS, _TOTAL = ctypes.POINTER(FACTS), ctypes.POINTER(TOTAL)
     _OUT = [ctypes.c_char_p, _SIZE, ctypes.POINTER(_SIZE)]
     _REPORT: List[Any] = [ctypes.c_uint8, *_FILE, *_OUTCOME, *_FILE, *_FILE, *_MODE, *_OUT]
     _PAGE: List[Any] = [*_FILE, *_FILE, *_FILE, *_OUTCOME, *_FILE, *_FILE, *_MODE, *_FILE, _FACTS, *_OUT]
     _GROUPS_PAGE: List[Any] = [*_FILE, *_FILE, *_FILE, *_OUTCOME, ctypes.c_bool, *_FILE, _FACTS, *_OUT]
+    _ENTRY: List[Any] = [*_FILE, *([ctypes.c_uint8, *_FILE] * 3), *_MODE, _TOTAL, *_OUT]
 
     def __init__(self, path: Union[str, pathlib.Path]):
         library = ctypes.CDLL(str(path))
         self._report = self._function(library, "report", self._REPORT)
         self._page = self._function(library, "answer_page", self._PAGE)
         self._groups_page = self._function(library, "groups_page", self._GROUPS_PAGE)
+        self._entry = self._function(library, "folder_entry", self._ENTRY)
 
     @staticmethod
     def _function(library: ctypes.CDLL, name: str, types: List[Any]) -> Any:
@@ -192,6 +216,15 @@ class _Library:
         told = beside["hint"]
         hint = None if told is None else Hint(told["line"], tuple(told["sentences"]))
         return Report(status, found, lambda: text, tuple(beside["notes"]), hint)
+
+    def ask_entry(self, entry: EntryFiles) -> Found:
+        words = _text(entry.name.encode())
+        for kind in ENDINGS:
+            file = entry.files.get(kind)
+            state = _MISSING if kind not in entry.files else _UNREAD if file is None else _THERE
+            words += [state, *_text(file or b"")]
+        _, text = self._call(self._entry, [*words, *entry.mode.switches, ctypes.byref(self.TOTAL())], 2**15)
+        return _entry_in(text, "the library")
 
     def _asked_for_page(self, question: Question) -> Report:
         function = self._page if question.command == "page" else self._groups_page
@@ -235,8 +268,7 @@ class _Library:
             file or b"" for file in (question.outcome, question.certificate, question.violation))
         name = question.command + (f"_by_{question.satisfaction}" if question.command in _BY_MEASURE else "")
         return [_QUESTIONS.index(name), question.election, len(question.election), outcome, len(outcome),
-                question.outcome is not None, certificate, len(certificate), violation, len(violation),
-                question.mode.stable, question.mode.exhaustive, question.mode.cover]
+                question.outcome is not None, certificate, len(certificate), violation, len(violation), *question.mode.switches]
 
 
 class _Program:
@@ -293,10 +325,32 @@ class _Program:
         line = line_of_record(_files(question)[name], b";" if name == "election" else b",", found["record"])
         return Hint(line, sentences, names_file=True) if sentences else None
 
+    def ask_entry(self, entry: EntryFiles) -> Found:
+        """It is run on a folder of these files. One that couldn't be read is empty there, and what is found of it put right."""
+        if entry.files["election"] is None:
+            return unread_entry(entry.name)
+
+        def run() -> "subprocess.CompletedProcess[bytes]":
+            with tempfile.TemporaryDirectory(prefix="pbaudit-") as folder:
+                for kind, file in entry.files.items():
+                    self._file(folder, f"entry{ENDINGS[kind]}", file or b"")
+                return self._run_on(folder, ["folder", ".", "--json", *entry.mode.options])
+        _, text, _ = self._done(run)
+        found = _entry_in(text, self._path)
+        for kind, file in entry.files.items():
+            # That the election is refused, or states no outcome, stands before that the certificate can't be read.
+            if file is None and found[kind] is not None and found[kind].get("input") != "election":
+                found[kind] = unread_of("certificate")
+        return {**found, "name": entry.name}
+
     def _answer(self, question: Question, *options: str) -> Tuple[int, bytes, bytes]:
         """The status, and what comes on standard output and on standard error."""
+        return self._done(lambda: self._run(question, *options))
+
+    def _done(self, run: Callable[[], "subprocess.CompletedProcess[bytes]"]) -> Tuple[int, bytes, bytes]:
+        """The same of a run that ends with an answer."""
         try:
-            done = self._run(question, *options)
+            done = run()
         except OSError as why:
             # No file that was given is at fault, so that this is none of the errors of reading them.
             raise RuntimeError(f"{self._path} can't be run on copies of the files: {why}") from why
@@ -311,8 +365,10 @@ class _Program:
     def _run(self, question: Question, *options: str) -> "subprocess.CompletedProcess[bytes]":
         with tempfile.TemporaryDirectory(prefix="pbaudit-") as folder:
             words = self._page_words(question, folder) if question.command in _PAGES else self._words(question, folder)
-            words = [*self._run_by, *words, *_options(question), *options]
-            return subprocess.run(words, cwd=folder, stdin=subprocess.DEVNULL, capture_output=True, check=False)
+            return self._run_on(folder, [*words, *_options(question), *options])
+
+    def _run_on(self, folder: str, words: List[str]) -> "subprocess.CompletedProcess[bytes]":
+        return subprocess.run([*self._run_by, *words], cwd=folder, stdin=subprocess.DEVNULL, capture_output=True, check=False)
 
     def _words(self, question: Question, folder: str) -> List[str]:
         """The command and its files, which have the names of their roles."""
@@ -361,6 +417,15 @@ def _refusal(auditor: Auditor, question: Question) -> Report:
     return report
 
 
+def _entry_in(text: bytes, who: str) -> Found:
+    """The object of an entry, which is the first line of what somebody answers."""
+    line, _, _ = text.partition(b"\n")
+    try:
+        return entry_in(line)
+    except ValueError as why:
+        raise RuntimeError(f"{who} answers {why}, which this package can't read") from why
+
+
 def _files(question: Question) -> Dict[str, bytes]:
     """The files of a question by their roles, in the order of the command."""
     names = ("certificate", "violation") if question.violation is None else ("prices", "violation")
@@ -386,8 +451,7 @@ def _page_words(question: Question) -> List[Any]:
     if question.command == "groups_page":
         words.append(question.satisfaction == "count")
     else:
-        mode = question.mode
-        words += [*_named(question.certificate, page.certificate), mode.stable, mode.exhaustive, mode.cover]
+        words += [*_named(question.certificate, page.certificate), *question.mode.switches]
     return [*words, *_text(page.language.encode("utf-8", "replace"))]
 
 
@@ -437,3 +501,9 @@ def ask(question: Question) -> Report:
     """What answers a question. Raises MemoryError where memory ran out, ImportError as `auditor`, and RuntimeError where the
     program can't be run or doesn't answer."""
     return auditor().ask(question)
+
+
+def ask_entry(entry: EntryFiles) -> Found:
+    """What is found of the files of one name in a folder: an object with those on the election and on its certificates, each
+    None where it isn't there or the election is refused. Raises as `ask`."""
+    return auditor().ask_entry(entry)

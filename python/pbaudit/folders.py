@@ -11,7 +11,7 @@ from dataclasses import dataclass, field
 from functools import partial
 from typing import Any, Callable, Dict, Iterator, List, NamedTuple, Optional, Sequence, Tuple
 
-from ._auditor import Mode, Question, Satisfaction, ask, measured
+from ._auditor import ENDINGS, EntryFiles, Mode, Question, Satisfaction, ask, ask_entry, measured
 from .files import MOST_BYTES, Path, checked_call
 from .helpers import Helper
 from .objects import STATUSES, VERSION, Found as Answer, line_of, read_line, unread_of
@@ -28,7 +28,7 @@ UNREAD = line_of(unread_of("{}"))
 # What a task has at most: elections, and bytes of their files. A cluster takes about 20 ms for a task, and an audit of
 # so many bytes about 100 ms.
 MOST_OF_A_TASK, MOST_BYTES_OF_A_TASK = 50, 2**23
-CERTIFICATES = {".prices.csv": "prices", ".violation.csv": "violation"}
+CERTIFICATES = {ending: kind for kind, ending in ENDINGS.items() if kind != "election"}
 # Why a file isn't one of the elections of a folder, and how many of them a line names.
 MISNAMED = "an election is NAME.pb, with the ending in lower case"
 IRREGULAR, UNCLEAN = "only regular files are, and no links, folders or pipes", "their names have control characters"
@@ -238,26 +238,20 @@ def audit_read(entry: Entry, read: Read) -> List[Line]:
 def answers_on(entry: Entry, read: Read) -> List[Tuple[str, Answer]]:
     """The ending of each file of an entry that was audited, with the object that answers: of an election the one on groups,
     where that was asked for and it has an outcome."""
-    election = read(".pb")
-    if election is None:
-        return [(".pb", unread_of("election"))]
-    found = [(".pb", _election_answer(entry, election))]
-    for ending in entry.certificates if found[0][1]["kind"] != "refusal" else ():
-        certificate = read(ending)
-        answer = ask(Question(CERTIFICATES[ending], election, certificate or b"", mode=entry.mode)).found
-        # That the election states no outcome stands before that the certificate can't be read.
-        is_unread = certificate is None and answer.get("input") != "election"
-        found.append((ending, unread_of("certificate") if is_unread else answer))
-    return found
-
-
-def _election_answer(entry: Entry, election: bytes) -> Answer:
-    if entry.groups is not None:
+    files = _files_of(entry, read)
+    found = ask_entry(files)
+    answers = [(ending, found[kind]) for kind, ending in ENDINGS.items() if found[kind] is not None]
+    election = files.files["election"]
+    if entry.groups is not None and election is not None and found["election"]["kind"] != "refusal":
         answer = ask(Question("groups", election, satisfaction=entry.groups)).found
-        if answer["kind"] == "groups":
-            return answer
-    # An election that states no outcome is read all the same.
-    return ask(Question("read", election)).found
+        # An election that states no outcome is read all the same.
+        answers[0] = (".pb", answer if answer["kind"] == "groups" else found["election"])
+    return answers
+
+
+def _files_of(entry: Entry, read: Read) -> EntryFiles:
+    endings = (".pb", *entry.certificates)
+    return EntryFiles(entry.name, {kind: read(ending) for kind, ending in ENDINGS.items() if ending in endings}, entry.mode)
 
 
 def _line(ending: str, answer: Answer) -> Line:
@@ -269,8 +263,7 @@ def _line(ending: str, answer: Answer) -> Line:
 
 def entry_object(entry: Entry) -> Answer:
     """What is found of an entry as one object, as `pbaudit folder --json` prints it."""
-    found = {CERTIFICATES.get(ending, "election"): answer for ending, answer in answers_on(entry, partial(bytes_of_entry, entry))}
-    return {"kind": "entry", "name": entry.name, "version": VERSION, "election": None, "prices": None, "violation": None, **found}
+    return ask_entry(_files_of(entry, partial(bytes_of_entry, entry)))
 
 
 def total_object(entries: Sequence[Answer]) -> Answer:

@@ -20,6 +20,14 @@ def object_of(line: bytes, status: int) -> Found:
     return found
 
 
+def entry_in(line: bytes) -> Found:
+    """The object of a line on an election of a folder. Raises ValueError for another line."""
+    found: Found = json.loads(line)
+    if not isinstance(found, dict) or found.get("version") != VERSION or found.get("kind") != "entry":
+        raise ValueError(reprlib.repr(line))
+    return found
+
+
 def amount_of(figure: Any) -> Fraction:
     """An amount of an object, in the currency: its millionths, or these over the number of voters."""
     whole, part = (figure["numerator"], figure["denominator"]) if isinstance(figure, dict) else (figure, 1)
@@ -40,6 +48,11 @@ def refusal_of(role: str, number: int, name: str, record: int) -> Found:
 def unread_of(role: str) -> Found:
     """The object of the refusal of a file that can't be read."""
     return refusal_of(role, 18, "Read", 0)
+
+
+def unread_entry(name: str) -> Found:
+    """The object of the files of a name of which the election can't be read."""
+    return {"kind": "entry", "name": name, "version": VERSION, "election": unread_of("election"), "prices": None, "violation": None}
 
 
 def line_of(found: Found) -> str:

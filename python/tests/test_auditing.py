@@ -71,6 +71,38 @@ class Answers(unittest.TestCase):
                 told.add((answer.found.get("kind"), (answer.found.get("failed") or {}).get("name")))
         self.assertLess({("prices", "S5"), ("violation", "V4"), ("refusal", None), ("both", None)}, told)
 
+    def test_both_answer_on_an_entry_as_a_folder(self):
+        """The library and the program, with the object that the program prints on the folder."""
+        options = {(): {}, ("--stable",): {"stable": True}, ("--no-exhaustive", "--cover"): {"exhaustive": False, "cover": True}}
+        for words, mode in options.items():
+            lines = subprocess.run([PROGRAM, "folder", EXAMPLES, "--json", *words], capture_output=True, check=False).stdout.split(b"\n")
+            wanted = [json.loads(line) for line in lines if b'"kind":"entry"' in line]
+            self.assertEqual([each["name"] for each in wanted], ["district", "hall", "sample", "school"])
+            for entry in wanted:
+                paths = {kind: EXAMPLES / f"{entry['name']}{ending}" for kind, ending in _auditor.ENDINGS.items()}
+                files = {kind: path.read_bytes() for kind, path in paths.items() if path.exists()}
+                for auditor in (_auditor._find(), _auditor._Program(str(PROGRAM))):
+                    with self.subTest(words=words, entry=entry["name"], auditor=auditor):
+                        asked = _auditor.EntryFiles(entry["name"], files, _auditor.Mode(**mode))
+                        self.assertEqual(auditor.ask_entry(asked), entry)
+
+    def test_both_answer_on_an_entry_with_files_that_cant_be_read(self):
+        """What stands first is told first: that the election can't be read, is refused or states no outcome. The name may be any."""
+        sample, prices = (EXAMPLES / f"sample.{end}" for end in ("pb", "prices.csv"))
+        without_outcome, refused = sample.read_bytes().replace(b";selected", b";funded"), prices.read_bytes()
+        unread = {"prices": None, "violation": None}
+        numbers = {"election": [18, None, None], "certificate": [None, 18, 18], "refused": [2, None, None], "without": [None, 17, 17]}
+        for what, files in {"election": {"election": None, **unread}, "certificate": {"election": sample.read_bytes(), **unread},
+                            "refused": {"election": refused, **unread}, "without": {"election": without_outcome, **unread}}.items():
+            told = []
+            for auditor in (_auditor._find(), _auditor._Program(str(PROGRAM))):
+                with self.subTest(what=what, auditor=auditor):
+                    found = auditor.ask_entry(_auditor.EntryFiles('"x"<b>' + "y" * 300, files))
+                    self.assertEqual([(found[kind] or {}).get("number") for kind in _auditor.ENDINGS], numbers[what])
+                    self.assertEqual((found["name"], found["kind"]), ('"x"<b>' + "y" * 300, "entry"))
+                    told.append(found)
+            self.assertEqual(*told)
+
     def test_what_a_yes_says_of_groups(self):
         """The budgets of the school come to less than the limit, and those of the district to more."""
         school = [EXAMPLES / f"school.{end}" for end in ("pb", "prices.csv", "violation.csv")]
@@ -140,6 +172,13 @@ class Answers(unittest.TestCase):
                     self.assertEqual((report.status, report.found, report.notes), (status, found, notes))
                     self.assertEqual(report.hint and report.hint.sentences, sentences)
                     self.assertEqual(report.text, f"{printed}\n".encode())
+
+    def test_what_is_no_object_of_an_entry(self):
+        for answer in ("", "no", "[]", '{"kind":"entry"}', '{"kind":"total","version":1}'):
+            with self.subTest(answer=answer), tempfile.TemporaryDirectory() as room:
+                program = _auditor._Program(str(program_of(room, f"echo '{answer}'")))
+                with self.assertRaisesRegex(RuntimeError, "which this package can't read"):
+                    program.ask_entry(_auditor.EntryFiles("town", {"election": b""}))
 
     def test_a_library_that_runs_out_of_memory_or_is_older(self):
         library = object.__new__(_auditor._Library)

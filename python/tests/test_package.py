@@ -125,6 +125,7 @@ class Answers(unittest.TestCase):
     ALLOWED = {
         "_auditor.py: data.partition": "the parts of a report of the library, whose first line is read as JSON",
         "_auditor.py: rest.partition": "the same, whose second line is read as JSON too",
+        "_auditor.py: text.partition": "the first line of an answer on an entry of a folder, which is read as JSON",
         "_auditor.py: told.decode('utf-8', 'replace').split": "notes and a hint: the program has them on standard error alone",
         "_auditor.py: line.startswith": "which of these are notes",
         "_auditor.py: note[len(name):]": "a note, without the name that the program puts in front of what it tells there",

@@ -5,7 +5,8 @@
    Each file and each answer ends where a page ends that nothing may touch. The same call has to say the same with just enough
    room, and write nothing with less or where it runs out of memory; what explains has to begin with the line that is explained,
    both have to be what each is, what is said of groups goes with the note, tidied prices stay as they are, a report ends with the
-   answer's text, a file that isn't refused is told to be what it was taken for, and each refusal has a hint or none, but ends.
+   answer's text, an entry of a folder has the line of each of its files, and counts them, a file that isn't refused is told to be
+   what it was taken for, and each refusal has a hint or none, but ends.
 
    The library has no counters for libFuzzer, so the kinds of its answers are counted in their place.
 */
@@ -149,6 +150,47 @@ static void demand_both(Answer both) {
     let_go(prices.text), let_go(violation.text);
 }
 
+static uint8_t entry(pbaudit_total *total, uint8_t *out, size_t room, size_t *needed) {
+    Bytes e = files[ELECTION], c = files[CERTIFICATE], v = files[VIOLATION];
+    return pbaudit_folder_entry((const uint8_t *)"x", 1, PBAUDIT_FILE_THERE, e.at, e.length, PBAUDIT_FILE_THERE, c.at, c.length,
+                                PBAUDIT_FILE_THERE, v.at, v.length, stable, exhaustive, cover, total, out, room, needed);
+}
+
+/* Adds the first line of what a command answers behind the name of a file, and counts that. */
+static uint8_t add_line(Bytes *to, const char *name, char command, size_t counts[3]) {
+    Answer said = answer(command);
+    size_t line = (size_t)((uint8_t *)memchr(said.text.at, '\n', said.text.length) + 1 - said.text.at), ahead = strlen(name);
+    demand(to->length + ahead + line <= to->size, "a line that is too long");
+    memcpy(to->at + to->length, name, ahead), memcpy(to->at + to->length + ahead, said.text.at, line);
+    to->length += ahead + line, counts[said.status]++;
+    let_go(said.text);
+    return said.status;
+}
+
+/* What is told of an entry is an object, and the lines of its files; and these are counted. */
+static void demand_entry(void) {
+    static uint8_t lines[1 << 16];
+    Bytes wanted = {lines, 0, NULL, sizeof lines}, certificate = files[CERTIFICATE];
+    size_t counts[3] = {0, 0, 0}, needed = 0;
+    bool is_read = add_line(&wanted, "x.pb: ", 'r', counts) == 0;
+    counts[0] = 0;
+    if (is_read) {
+        add_line(&wanted, "x.prices.csv: ", 'p', counts);
+        files[CERTIFICATE] = files[VIOLATION];
+        add_line(&wanted, "x.violation.csv: ", 'v', counts);
+        files[CERTIFICATE] = certificate;
+    }
+    pbaudit_total total, again;
+    uint8_t none, status = entry(&total, &none, 0, &needed);
+    Bytes out = guarded(needed);
+    demand(entry(&again, out.at, out.length, &needed) == status && needed == out.length, "another entry with room for it");
+    demand(status == (counts[2] ? 2 : counts[1] ? 1 : 0) && !memcmp(&total, &again, sizeof total), "the status of an entry");
+    demand(total.elections == 1 && total.yes == counts[0] && total.no == counts[1] && total.refused == counts[2], "the counts of an entry");
+    demand(needed > wanted.length && !memcmp(out.at + needed - wanted.length, wanted.at, wanted.length) && out.at[0] == '{',
+           "an entry without its lines");
+    let_go(out);
+}
+
 static bool begins(Bytes file, const char *with) {
     return file.length > strlen(with) && !memcmp(file.at, with, strlen(with));
 }
@@ -259,6 +301,8 @@ int LLVMFuzzerTestOneInput(const uint8_t *data, size_t size) {
         demand_groups(said);
     if (command == 'b')
         demand_both(said);
+    if (command == 'b' && !has_outcome)
+        demand_entry();
     if (command == 'e')
         demand_explained(said);
     if (command == 't')

@@ -5,6 +5,7 @@ command is tried by test_command.py.
 """
 import concurrent.futures
 import json
+import os
 import random
 import re
 import shutil
@@ -366,6 +367,45 @@ def test_texts_are_the_programs(program, told):
     assert 'lang="de"' in told["page"]["text"] and "x.pb" in told["page"]["text"] and told["page"]["sentence"]
     assert told["folder"]["text"].endswith("total 2 elections 0 yes 1 no 1 refused\n")
     assert [each["file"] for each in told["folder"]["files"]] == ["a.pb", "a.prices.csv", "b.pb"]
+
+
+# Has a folder answered under each mode that is given, by each kind of auditor.
+OF_A_FOLDER = """
+import { readdirSync, readFileSync } from "node:fs";
+import { asyncAuditor, auditor } from "pbaudit";
+import { workerAuditor } from "pbaudit/worker";
+const [folder, modes] = process.argv.slice(2), files = new Map(readdirSync(folder).map(name => [name, readFileSync(`${folder}/${name}`)]));
+const told = [];
+for (const one of [await auditor(), await asyncAuditor(), await workerAuditor()]) {
+  for (const mode of JSON.parse(modes)) {
+    const { status, text } = await one.folder(files, mode);
+    told.push([status, text]);
+  }
+  one.close?.();
+}
+console.log(JSON.stringify(told));
+"""
+MODES = {"": {}, "--stable": {"stable": True}, "--no-exhaustive --cover": {"exhaustive": False, "cover": True}}
+
+
+def test_a_folder_is_the_programs(program, installed, room):
+    """The examples, an election that is refused and one without an outcome, and names that are hard to keep as they are."""
+    for name in os.listdir(EXAMPLES):
+        if name.startswith(("district.", "hall.", "sample.", "school.")):
+            shutil.copy(EXAMPLES / name, room)
+    sample, prices = ((EXAMPLES / f"sample.{end}").read_bytes() for end in ("pb", "prices.csv"))
+    for name in ("\ufefftown", '"<b>\'', "\u00e9", "a b", "--stable", "y" * 240):
+        (room / f"{name}.pb").write_bytes(sample)
+        (room / f"{name}.violation.csv").write_bytes(prices)
+    (room / "refused.pb").write_bytes(prices)
+    (room / "refused.prices.csv").write_bytes(prices)
+    (room / "without.pb").write_bytes(sample.replace(b";selected", b";funded"))
+    (room / "without.prices.csv").write_bytes(prices)
+    (installed / "folder.mjs").write_text(OF_A_FOLDER)
+    ran = subprocess.run(["node", "folder.mjs", room, json.dumps([*MODES.values()])], cwd=installed, stdout=subprocess.PIPE, check=True)
+    wanted = [ends(program, ["folder", ".", *words.split()], room)[:2] for words in MODES]
+    assert json.loads(ran.stdout) == [[status, text.decode()] for status, text in wanted] * 3
+    assert len({text for _, text in wanted}) == len(MODES)
 
 
 # Ways of finding packages that tsc knows, and the system of modules that a caller is of.

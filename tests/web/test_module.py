@@ -113,6 +113,18 @@ def test_each_allocation_fails(starving, words):
     assert told["wrong"] == 0 and told["failed"] > 0
 
 
+def test_the_oldest_browsers_are_the_same_everywhere():
+    """For which the scripts are made, which docs/WEB.md names, and which the page names in each language where it can't run."""
+    made_for = re.search(r"--target=([\w.,]+)", (WEB / "assemble.py").read_text(encoding="utf-8"))[1]
+    oldest = dict(re.findall(r"([a-z]+)([\d.]+)", made_for))
+    document = (TOP / "docs/WEB.md").read_text(encoding="utf-8")
+    named = re.findall(r"(Chromium|Firefox|Safari) since ([\d.]+) \(", document)
+    assert named == [("Chromium", oldest["chrome"]), ("Firefox", oldest["firefox"]), ("Safari", oldest["safari"])]
+    for language in ("en", "de", "fr", "pl"):
+        [sentence] = re.findall(r"^  broken: (.*)$", (WEB / f"src/words/{language}.ts").read_text(encoding="utf-8"), re.MULTILINE)
+        assert re.findall(r"\d+(?:\.\d+)?", sentence) == [*oldest.values()]
+
+
 def test_types():
     needs("tsc")
     told = subprocess.run(["tsc", "--project", WEB], capture_output=True, text=True, check=False)
@@ -134,7 +146,8 @@ def test_style(room):
 # A pattern in a script, and words of printed lines, of tables and of the library's pages.
 PATTERN = re.compile(r"(?:[=(,:\[!&|?;>]|return) */(?![/*])((?:[^/\\\n\[]|\\.|\[(?:[^\]\\\n]|\\.)*\])+)/")
 OF_THE_PROGRAM = re.compile(r"failed|satisfied|priceable|supported|\^violation|refused|note:| voters| projects|says |<\w|class=")
-CALLED = {"pbaudit_report", "pbaudit_answer_page", "pbaudit_groups_page", "pbaudit_kind", "pbaudit_room"}
+CALLED = {"pbaudit_report", "pbaudit_answer_page", "pbaudit_groups_page", "pbaudit_folder_entry", "pbaudit_folder_total", "pbaudit_kind",
+          "pbaudit_room"}  # fmt: skip
 # What a text may be called that is an answer's, a printed page or a stream, or its bytes; and what makes such a text.
 TEXT = (r"\b(?:texts?|lines?|page|html|printed|answer|reply|told|said|shown|output|stdout|stderr|bytes|data|content|first|rest|head|notes?"
         r"|sentences?|textContent|nodeValue|(?:inner|outer)(?:Text|HTML)|srcdoc)\b")  # fmt: skip
@@ -152,8 +165,8 @@ TAKEN_APART = re.compile(
 OF_FILES = {"elections", "files", "finding", "sheets", "words"}
 # What is taken apart nevertheless, how often in the module, and why.
 ALLOWED = {
-    "auditor/replies.ts: bytes.indexOf(": (2, "where the lines of JSON of a report end"),
-    "auditor/replies.ts: bytes.subarray(": (3, "the lines of JSON, which are read as such, and what is behind them"),
+    "auditor/replies.ts: bytes.indexOf(": (1, "where a line of JSON ends"),
+    "auditor/replies.ts: bytes.subarray(": (2, "the line of JSON, which is read as such, and what is behind it"),
     "auditor/objects.ts: text.replace(": (1, "numbers in JSON that are too large for a number"),
     "auditor/statuses.ts: .test(": (1, "what a browser says where it has no memory"),
     "package/entries.ts: file.endsWith(": (1, "the name of a file"),

@@ -12,10 +12,9 @@ pub text_after : (a b : List Text) (old middle new : Text) → middle ≡ old ++
 text_after a b old middle new first then = grind (arith, append_assoc, flat_map-append)
 
 -- the lines on the files of an entry, one after the other
-pub found_text : (spelled name : Text) (read : Reply) (prices violation : Option Reply) (old first second new : Text)
-    → spelled ≡ name
-    → first ≡ old ++ text_of (file_lines (spelled ++ codes ".pb") read)
-    → second ≡ first ++ text_of (certificate_lines (spelled ++ codes ".prices.csv") prices)
-    → new ≡ second ++ text_of (certificate_lines (spelled ++ codes ".violation.csv") violation)
+pub found_text : (name : Text) (read : Reply) (prices violation : Option Reply) (old first second new : Text)
+    → first ≡ old ++ text_of (file_lines (name ++ codes ".pb") read)
+    → second ≡ first ++ text_of (certificate_lines (name ++ codes ".prices.csv") prices)
+    → new ≡ second ++ text_of (certificate_lines (name ++ codes ".violation.csv") violation)
     → new ≡ old ++ text_of (lines_of false (record { name = name; read = read; prices = prices; violation = violation }))
-found_text spelled name read prices violation old first second new is one two three = grind (arith, text_after)
+found_text name read prices violation old first second new one two three = grind (arith, text_after)

@@ -5,6 +5,7 @@ pub mod Both
 pub mod Margins
 pub mod Explained
 pub mod Questions
+pub mod Names
 pub mod Reports
 pub mod Inside
 pub mod Objects

@@ -1,5 +1,5 @@
 -- The report on a folder of elections.
-use Rattle.std.specs.Prelude.{◌≡◌, ◌&&◌, not, nat_lt, if◌then◌else◌, Bool, true, false, List, [], ◌∷◌, ◌++◌, count_by, flat_map, map, take, Option, Some, None, codes, decimal}
+use Rattle.std.specs.Prelude.{◌≡◌, ◌+◌, ◌&&◌, not, nat_lt, if◌then◌else◌, Bool, true, false, List, [], ◌∷◌, ◌++◌, count_by, flat_map, map, take, Option, Some, None, codes, decimal}
 use Rattle.serde_json.specs.Data.{string}
 use Rattle.serde_json.specs.Written.{compact_text}
 use Rattle.pb_records.specs.Loading.{Delivery}
@@ -10,6 +10,7 @@ use Rattle.pb_json.specs.Members.{count}
 use Rattle.pb_json.specs.Texts.{IsJson}
 use Rattle.pb_reply.specs.Replies.{Answer, Reply, text_of}
 use Rattle.pb_audit.specs.Answers.{AnswersElection, AnswersPrices, AnswersViolation}
+use Rattle.pb_audit.specs.declared.parts.ToldEntry.{ToldEntry}
 use Rattle.pb_audit.specs.declared.total.Ending.{Ending}
 use Rattle.pb_audit.specs.declared.total.FolderStatus.{FolderStatus}
 use Rattle.pb_audit.specs.declared.total.FolderStatus.TheVariants.{AllYes, SomeNo, SomeRefused}
@@ -175,6 +176,40 @@ pub record ReportOf (as_json : Bool) (m : Mode) (entries : List EntryFiles) (rep
   pub found : List Found
   pub each : FindsEach m entries found
   pub out : report ≡ report_on as_json found
+
+-- What is told of one entry by itself, its object and its lines, and how many of its files are answered how.
+pub record TellsEntry (m : Mode) (files : EntryFiles) (told : ToldEntry) : Type 0 where
+  pub found : Found
+  pub finds : Finds m files found
+  pub text : told.text.items ≡ text_of (lines_of true found ++ lines_of false found)
+  pub total : told.total ≡ total_of (endings_of found)
+
+-- what is told of a total, its object and its line
+abbrev pub total_told : Total → Answer FolderStatus
+total_told t = record {
+  text = text_of (total_line true t ∷ total_line false t ∷ []);
+  status = status_of t;
+}
+
+-- the first line of a text is one value in JSON
+pub record BeginsWithJson (text : Text) : Type 0 where
+  pub line : Text
+  pub json : IsJson line
+  pub rest : Text
+  pub begins : text ≡ text_of (line ∷ []) ++ rest
+
+-- the sum of two totals, and of a list of them
+abbrev pub added : Total → Total → Total
+added a b = record {
+  elections = a.elections + b.elections;
+  yes = a.yes + b.yes;
+  no = a.no + b.no;
+  refused = a.refused + b.refused;
+}
+
+abbrev pub together : List Total → Total
+together [] = record { elections = 0; yes = 0; no = 0; refused = 0 }
+together (t ∷ ts) = added t (together ts)
 
 -- A report that is not finished: how it is written, its mode, its text so far but for what is written out, and how the
 -- files of that text end.

@@ -77,9 +77,9 @@ impl FolderReport {
             mut text,
             mut endings,
         } = self;
-        let found = found_of(alloc, entry, mode)?;
+        let found = found_of(alloc, entry.lent(), mode)?;
         push_endings(&mut endings, &found)?;
-        push_entry(alloc, as_json, &mut text, entry, found)?;
+        push_entry(alloc, as_json, &mut text, &entry.name, found)?;
         Ok(FolderReport {
             as_json,
             mode,
@@ -141,30 +141,30 @@ fn push_entry(
     alloc: Global,
     as_json: bool,
     text: &mut String,
-    entry: &Entry,
+    name: &str,
     found: Found,
 ) -> Result<(), AllocError>
-    ensures text { OnOk result (string_bytes text.new ≡ string_bytes text.old ++ text_of (spec.lines_of as_json (found_as entry.now found))) }
+    ensures text { OnOk result (string_bytes text.new ≡ string_bytes text.old ++ text_of (spec.lines_of as_json (found_as name.now found))) }
     ensures json { as_json ≡ true → OnOk result (AddsJsonLine (string_bytes text.old) (string_bytes text.new)) }
 {
     if as_json {
-        push_object(alloc, text, entry, found)
+        push_object(alloc, text, name, found)
     } else {
-        push_found(text, entry, &found)
+        push_found(text, name, &found)
     }
 }
 
 /// Adds the object of an entry, in a line.
-fn push_object(
+pub(crate) fn push_object(
     alloc: Global,
     text: &mut String,
-    entry: &Entry,
+    name: &str,
     found: Found,
 ) -> Result<(), AllocError>
-    ensures text { OnOk result (string_bytes text.new ≡ string_bytes text.old ++ text_of (spec.entry_object (found_as entry.now found) ∷ [])) }
+    ensures text { OnOk result (string_bytes text.new ≡ string_bytes text.old ++ text_of (spec.entry_object (found_as name.now found) ∷ [])) }
     ensures json { OnOk result (AddsJsonLine (string_bytes text.old) (string_bytes text.new)) }
 {
-    let object = entry_value(alloc, &entry.name, found)?;
+    let object = entry_value(alloc, name, found)?;
     let line = json_text(alloc, &object)?;
     push_line(text, &line)
 }
@@ -196,10 +196,9 @@ fn value_of(reply: Option<Reply>) -> Value
 }
 
 /// Adds the lines on the files of an entry.
-fn push_found(text: &mut String, entry: &Entry, found: &Found) -> Result<(), AllocError>
-    ensures { OnOk result (string_bytes text.new ≡ string_bytes text.old ++ text_of (spec.lines_of false (found_as entry.now found.now))) }
+pub(crate) fn push_found(text: &mut String, name: &str, found: &Found) -> Result<(), AllocError>
+    ensures { OnOk result (string_bytes text.new ≡ string_bytes text.old ++ text_of (spec.lines_of false (found_as name.now found.now))) }
 {
-    let name = entry.name.as_str();
     push_file(text, name, ELECTION, &found.read)?;
     push_certificate(text, name, PRICES, &found.prices)?;
     push_certificate(text, name, VIOLATION, &found.violation)
@@ -231,7 +230,7 @@ fn push_file(text: &mut String, name: &str, ending: &str, reply: &Reply) -> Resu
 }
 
 /// Adds how the lines on the files of an entry end.
-fn push_endings(endings: &mut Vec<Ending>, found: &Found) -> Result<(), AllocError>
+pub(crate) fn push_endings(endings: &mut Vec<Ending>, found: &Found) -> Result<(), AllocError>
     ensures { OnOk result (endings.new.items ≡ endings.old.items ++ spec.endings_on (found.now).read (found.now).prices (found.now).violation) }
 {
     endings.push(Ending {

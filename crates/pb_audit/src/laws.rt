@@ -1,12 +1,12 @@
 //! Laws on what commands answer, over the definitions alone.
 
-ghost use Rattle.std.specs.Prelude.{◌≡◌, ◌∷◌, [], Bool, IsFalse, IsTrue, List, Option, codes};
+ghost use Rattle.std.specs.Prelude.{◌≡◌, ◌∷◌, [], Bool, IsFalse, IsTrue, List, Option, codes, flat_map, map};
 ghost use Rattle.pb_records.specs.Loading.{Delivery};
 ghost use Rattle.pb_cohesion.specs.declared.Mode.{Mode};
 ghost use Rattle.pb_audit.specs.Answers.{AnswersPrices, AnswersRefutation};
 ghost use Rattle.pb_audit.specs.OneAnswer.{JustOne};
 ghost use Rattle.pb_audit.specs.Questions.{Answers};
-ghost use Rattle.pb_audit.specs.Reports.{EntryFiles, ReportOf};
+ghost use Rattle.pb_audit.specs.Reports.{EntryFiles, Found, ReportOf, endings_of, together, total_of};
 ghost use Rattle.pb_audit.specs.declared.question.Question.{Question};
 ghost use Rattle.pb_reply.specs.Replies.{Reply};
 ghost use Rattle.pb_reply.specs.Turns.{gives, gives_file};
@@ -18,6 +18,11 @@ ghost use Rattle.pb_reply.specs.declared.status.Status.TheVariants.{Yes};
 pub fn one_answer()
     ensures question { (format : Format) (q : Question) (election : Delivery) (outcome : Option Delivery) (certificate violation : Delivery) → JustOne (Answers format q (gives election) (gives_file outcome) (gives certificate) (gives violation)) }
     ensures folder { (as_json : Bool) (m : Mode) (entries : List EntryFiles) → JustOne (ReportOf as_json m entries) }
+{}
+
+/// The total of a folder is that of its entries together, so that whoever has each by itself has the whole.
+pub fn totals_add_up()
+    ensures { (found : List Found) → total_of (flat_map endings_of found) ≡ together (map (λ f. total_of (endings_of f)) found) }
 {}
 
 /// For one election and one outcome, a price certificate and a refutation are never both answered by a yes where the

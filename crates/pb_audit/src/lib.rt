@@ -13,8 +13,10 @@ mod found;
 mod groups;
 pub mod laws;
 mod margins;
+pub mod names;
 mod objects;
 mod on_groups;
+mod parts;
 mod prices;
 mod question;
 mod read;
@@ -27,13 +29,14 @@ mod total;
 mod violation;
 
 pub use answers::answer;
-pub use folder::{Entry, folder_text};
+pub use folder::{Entry, LentEntry, folder_text};
 pub use folder_report::FolderReport;
 pub use on_groups::{groups_on_yes, notes_on_yes};
+pub use parts::{ToldEntry, told_of_total};
 pub use pb_input::{InputFault, InputName, InputRefusal};
 pub use pb_reply::{Answer, Fault, Format, Loaded, Status, Unmet};
 pub use question::Question;
 pub use runs::{
     run_both, run_groups, run_prices, run_read, run_refutation, run_tidy, run_violation,
 };
-pub use total::FolderStatus;
+pub use total::{FolderStatus, Total};

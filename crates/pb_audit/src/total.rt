@@ -27,13 +27,18 @@ pub(crate) struct Ending {
     pub(crate) status: Status,
 }
 
-/// How many elections there are, how many certificates are answered yes and no, and how many files are refused.
-#[derive(Clone, Copy)]
-pub(crate) struct Total {
-    elections: usize,
-    yes: usize,
-    no: usize,
-    refused: usize,
+/// How many files are answered how.
+#[repr(C)]
+#[derive(Clone, Copy, Debug, PartialEq, Eq)]
+pub struct Total {
+    /// How many elections there are, those that are refused among them.
+    pub elections: usize,
+    /// How many certificates are answered yes.
+    pub yes: usize,
+    /// How many certificates are answered no.
+    pub no: usize,
+    /// How many files are refused.
+    pub refused: usize,
 }
 
 impl Ending {
@@ -76,7 +81,7 @@ impl Total {
     }
 
     /// Refused where a file is, and else no where a certificate is answered so.
-    pub(crate) fn status(self) -> FolderStatus
+    pub fn status(self) -> FolderStatus
         ensures { result ≡ spec.status_of self }
     {
         if self.refused > 0 {

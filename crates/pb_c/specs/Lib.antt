@@ -5,3 +5,4 @@ pub mod Reports
 pub mod Whole
 pub mod Groups
 pub mod Kinds
+pub mod Folders

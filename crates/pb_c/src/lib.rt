@@ -9,6 +9,8 @@ ghost use Rattle.pb_audit.specs.Questions.{Answers};
 ghost use Rattle.pb_c.specs.Commands.{measure_of, question_of};
 ghost use Rattle.pb_c.specs.Files.{given_file, given_mode};
 ghost use Rattle.pb_c.specs.Facts.{no_facts};
+ghost use Rattle.pb_c.specs.Folders.{IsNoEntry, ReportsEntry, ReportsTotal};
+ghost use Rattle.pb_c.specs.Folders as folder;
 ghost use Rattle.pb_c.specs.Kinds.{TellsKind};
 ghost use Rattle.pb_c.specs.Reports.{IsNothing, Reports, ReportsFacts};
 ghost use Rattle.pb_c.specs.Whole.{IsWhole};
@@ -23,6 +25,7 @@ ghost use Rattle.pb_words.specs.Languages.{language_of};
 mod answers;
 mod facts;
 mod faults;
+mod folders;
 mod groups;
 mod hints;
 mod kinds;
@@ -33,11 +36,12 @@ mod whole;
 use answers::{answer_on, given_bytes, groups_page_on, page_on, question_of};
 use facts::NO_FACTS;
 pub use facts::{Culprit, Facts};
+use folders::{entry_of, report_entry, report_no_entry, report_total};
 use groups::groups_on;
 use hints::hint_answer;
 use kinds::tell_kind;
 use notes::note_answer;
-use pb_audit::Format;
+use pb_audit::{Format, ToldEntry, Total};
 use pb_page::{Language, PageNames};
 use pb_price::Mode;
 use report::{report, report_facts, report_nothing};
@@ -273,6 +277,68 @@ pub extern "C" fn pbaudit_groups_page(
         language,
     );
     report_facts(&answer, facts, out, needed)
+}
+
+/// Tells what is found of the files of one name in a folder, as `pbaudit folder` does: the object of these, in a line, and
+/// behind it their lines. It answers 0 where no file is refused and each certificate is answered yes, 1 where one is
+/// answered no and none is refused, 2 where a file is refused, 3 where there is no such entry, and 4 where memory ran
+/// out. `election_state` and its like are 0 where a file is missing, 1 where its bytes are given, and 2 where it couldn't be
+/// read; there is no entry without an election, with another number, or with a name that isn't UTF-8, is empty or has a
+/// control character. How many of its files are answered how goes to `total`, and is 0 where nothing is told; these
+/// add up to what `pbaudit_folder_total` takes. The text and its length are given as by `pbaudit_answer`.
+#[unsafe(no_mangle)]
+pub extern "C" fn pbaudit_folder_entry(
+    alloc: Global,
+    name: &[u8],
+    election_state: u8,
+    election: &[u8],
+    prices_state: u8,
+    prices: &[u8],
+    violation_state: u8,
+    violation: &[u8],
+    stable: bool,
+    exhaustive: bool,
+    cover: bool,
+    total: &mut Total,
+    out: &mut [u8],
+    needed: &mut usize,
+) -> u8
+    ensures entry { IfSome (folder.entry_of (folder.name_of name.now) (folder.file_as election_state election.now) (folder.file_as prices_state prices.now) (folder.file_as violation_state violation.now)) (λ files. ReportsEntry (given_mode stable exhaustive cover) files result total.new out.old out.new needed.new) }
+    ensures no_entry { IfNone (folder.entry_of (folder.name_of name.now) (folder.file_as election_state election.now) (folder.file_as prices_state prices.now) (folder.file_as violation_state violation.now)) (IsNoEntry result total.new out.old out.new needed.new) }
+{
+    let mode = Mode {
+        stable,
+        exhaustive,
+        cover,
+    };
+    let Some(entry) = entry_of(
+        name,
+        election_state,
+        election,
+        prices_state,
+        prices,
+        violation_state,
+        violation,
+    ) else {
+        return report_no_entry(total, needed);
+    };
+    report_entry(&ToldEntry::on(alloc, entry, mode), total, out, needed)
+}
+
+/// Tells the total of a folder, of which the entries are added up, as `pbaudit folder` does: its object, in a line, and
+/// behind it its line. It answers 0 where no file is refused and no certificate is answered no, 1 where one is answered
+/// no and no file is refused, 2 where one is refused, and 4 where memory ran out. The text and its length are given as by
+/// `pbaudit_answer`.
+#[unsafe(no_mangle)]
+pub extern "C" fn pbaudit_folder_total(
+    alloc: Global,
+    total: &Total,
+    out: &mut [u8],
+    needed: &mut usize,
+) -> u8
+    ensures { ReportsTotal total.now result out.old out.new needed.new }
+{
+    report_total(alloc, *total, out, needed)
 }
 
 /// Tells what a yes to a price certificate leaves open: 0, and the note that the voter budgets together are less than the

@@ -1,14 +1,14 @@
 //! How an answer is reported to C: a number, and the text in the caller's memory.
 ghost use Rattle.std.specs.Prelude.{◌≡◌, IfErr, IfOk};
 ghost use Rattle.pb_c.specs.Facts.{facts_of, no_facts};
-ghost use Rattle.pb_c.specs.Reports.{IsOutOfMemory, IsReported, status_code};
+ghost use Rattle.pb_c.specs.Reports.{IsGiven, IsOutOfMemory, IsReported, status_code};
 
 use crate::facts::{Facts, NO_FACTS, facts_of};
 use pb_audit::{Answer, Status};
 use std::alloc::AllocError;
 
 /// The number where what is asked for doesn't exist, a question or a language.
-const NOTHING_CODE: u8 = 3;
+pub(crate) const NOTHING_CODE: u8 = 3;
 
 /// The number where memory ran out.
 pub(crate) const MEMORY_CODE: u8 = 4;
@@ -54,12 +54,19 @@ pub(crate) fn report(
         *needed = 0;
         return MEMORY_CODE;
     };
-    let length = answer.text.len();
+    give(&answer.text, out, needed);
+    status_code(answer.status)
+}
+
+/// Gives a text, if it fits, and its length.
+pub(crate) fn give(text: &[u8], out: &mut [u8], needed: &mut usize)
+    ensures { IsGiven text.now out.old out.new needed.new }
+{
+    let length = text.len();
     *needed = length;
     if length <= out.len() {
-        out[..length].copy_from_slice(&answer.text);
+        out[..length].copy_from_slice(text);
     }
-    status_code(answer.status)
 }
 
 /// The number of a status.

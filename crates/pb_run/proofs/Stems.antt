@@ -10,7 +10,8 @@ use Rattle.std.specs.Str.{bytes_eq}
 use Rattle.std.specs.String.{string_cmp}
 use Rattle.std.specs.declared.string.String.{String}
 use Rattle.std.proofs.lemmas.Map.Text.{btree_set_updates_text}
-use Rattle.pb_run.specs.Listings.{Entry, is_clean, is_file_of}
+use Rattle.pb_audit.specs.Names.{is_clean}
+use Rattle.pb_run.specs.Listings.{Entry, is_file_of}
 
 no-file : (a b : Bool) → (a && b && false) ≡ false
 no-file true true = refl

@@ -1,22 +1,15 @@
 -- What a folder lists, and which files it has.
 use Rattle.std.specs.BTreeSet.{contains_text}
-use Rattle.std.specs.Prelude.{◌≡◌, codes, ℕ, List, Bool, ◌++◌, ◌&&◌, ◌==◌, not, nat_le, nat_lt, length}
-use Rattle.std.specs.List.{list_all, list_any}
+use Rattle.std.specs.Prelude.{◌≡◌, codes, ℕ, List, Bool, ◌++◌, ◌&&◌}
+use Rattle.std.specs.List.{list_any}
 use Rattle.std.specs.Str.{bytes_eq}
+use Rattle.pb_audit.specs.Names.{is_clean}
 use Rattle.pb_run.specs.declared.listing.Listing.{Listing}
 
 -- a name in a folder, and whether a regular file has it
 pub record Entry : Type 0 where
   pub name : List ℕ
   pub is_file : Bool
-
--- a byte that is no control character
-abbrev pub is_seen : ℕ → Bool
-is_seen b = nat_le 32 b && not (b == 127)
-
--- a name that is there and has no control character
-abbrev pub is_clean : List ℕ → Bool
-is_clean name = nat_lt 0 (length name) && list_all is_seen name
 
 -- this is the file with a name and an ending
 abbrev pub is_file_of : List ℕ → List ℕ → Entry → Bool

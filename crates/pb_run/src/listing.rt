@@ -4,8 +4,9 @@ ghost use Rattle.std.specs.BTreeSet.{contains_text};
 ghost use Rattle.pb_run.specs.Listings.{IsListingOf};
 
 use crate::listed::Listed;
-use crate::names::{has_name, is_clean, names_with};
+use crate::names::{has_name, names_with};
 use pb_audit::endings::{ELECTION, PRICES, VIOLATION};
+use pb_audit::names::is_clean;
 use pb_visible::is_hidden;
 use std::alloc::{AllocError, Global};
 use std::collections::BTreeSet;

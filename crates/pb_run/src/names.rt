@@ -1,12 +1,12 @@
 //! The names of the files with an ending.
 ghost use Rattle.std.specs.Prelude.{◌≡◌, ◌||◌, List, ℕ, IfOk, OnOk, false};
 ghost use Rattle.std.specs.BTreeSet.{contains_text};
-ghost use Rattle.std.specs.List.{list_all};
 ghost use Rattle.std.specs.Option.{option_map_or};
 ghost use Rattle.std.specs.Str.{bytes_eq};
-ghost use Rattle.pb_run.specs.Listings.{has_file, is_clean, is_file_of, is_seen};
+ghost use Rattle.pb_run.specs.Listings.{has_file, is_file_of};
 
 use crate::listed::Listed;
+use pb_audit::names::is_clean;
 use std::alloc::{AllocError, Global};
 use std::collections::BTreeSet;
 
@@ -60,18 +60,4 @@ fn name_of<'n>(entry: &'n Listed, ending: &str) -> Option<&'n str>
         true => Some(name),
         false => None,
     }
-}
-
-/// Whether a name is there and has no control character.
-pub fn is_clean(name: &str) -> bool
-    ensures { result ≡ is_clean name.now }
-{
-    !name.is_empty() && are_seen(name.as_bytes())
-}
-
-/// Whether none of the bytes is a control character.
-fn are_seen(bytes: &[u8]) -> bool
-    ensures { result ≡ list_all is_seen bytes.now }
-{
-    bytes.iter().all(|byte| *byte >= 32 && *byte != 127)
 }

@@ -1,18 +1,25 @@
 /* Calls of the proved library as a WebAssembly module. A file is put into the module's memory, a call answers a status and
    bytes. Room that was given isn't taken back before the next audit, for which all memory is as it was at first. */
 
-import { COMMANDS, pageCall, reportCall } from "./commands.js";
+import { COMMANDS, entryCall, pageCall, reportCall, totalCall } from "./commands.js";
 import { KINDS } from "./kinds.js";
-import { replyIn } from "./replies.js";
+import { COUNTS, entryIn, linesIn, replyIn } from "./replies.js";
 import { NO_MEMORY, OutOfMemory } from "./statuses.js";
-import type { Call, Command, PageCommand, Place, Question, Row, Word } from "./commands.js";
+import type { Call, Command, EntryFiles, PageCommand, Place, Question, Row, Word } from "./commands.js";
 import type { Kind } from "./kinds.js";
-import type { Reply } from "./replies.js";
+import type { Reply, ToldEntry, Total } from "./replies.js";
+import type { Mode } from "./statuses.js";
 
 /** How a call ends, and its text. */
 export interface Ended {
   readonly status: number;
   readonly bytes: Uint8Array;
+}
+
+/** How the report on a folder ends, and its last line. */
+export interface SaidOfTotal {
+  readonly status: number;
+  readonly text: string;
 }
 
 /** What the module exports. */
@@ -25,6 +32,8 @@ interface Calls {
 const TEXT_ROOM = 1 << 22, LINES_ROOM = 1 << 16;
 /** The bytes of pbaudit_facts, which a page tells beside its text. */
 export const FACTS_LENGTH = 40;
+/** The bytes of a count of pbaudit_total, and of all of them. */
+const COUNT_LENGTH = 8, TOTAL_LENGTH = 32;
 
 /** The canonical text of a certificate is about as long as the certificate. */
 function guessFor(command: Command, { files }: Question): number {
@@ -42,6 +51,7 @@ export class Auditor {
   private needed: Place | undefined;
   private facts: Place | undefined;
   private kind: Place | undefined;
+  private total: Place | undefined;
 
   constructor(module: WebAssembly.Module) {
     this.calls = new WebAssembly.Instance(module, {}).exports as unknown as Calls;
@@ -60,7 +70,7 @@ export class Auditor {
     const below = this.below();
     below.fill(0);
     below.set(this.first, this.from);
-    this.answered = this.needed = this.facts = this.kind = undefined;
+    this.answered = this.needed = this.facts = this.kind = this.total = undefined;
   }
 
   /** The memory below what was never taken. */
@@ -114,6 +124,25 @@ export class Auditor {
     const kind = this.kind ??= this.room(1);
     if (this.export("pbaudit_kind")(at, length, kind.at) === NO_MEMORY) throw new OutOfMemory();
     return KINDS[this.bytes(kind)[0]];
+  }
+
+  /** What is told of an election of a folder and of its certificates. */
+  entry(files: EntryFiles, mode: Mode): ToldEntry {
+    const { bytes } = this.call(entryCall(files, mode, this.roomOfTotal()), LINES_ROOM), view = this.view(this.roomOfTotal());
+    const counts = COUNTS.map((name, at) => [name, Number(view.getBigUint64(COUNT_LENGTH * at, true))]);
+    return entryIn(bytes, Object.fromEntries(counts) as Total);
+  }
+
+  /** The line of a total, and the status of the report on the folder. */
+  ofTotal(total: Total): SaidOfTotal {
+    const place = this.roomOfTotal(), view = this.view(place);
+    COUNTS.forEach((name, at) => view.setBigUint64(COUNT_LENGTH * at, BigInt(total[name]), true));
+    const { status, bytes } = this.call(totalCall(place), LINES_ROOM);
+    return { status, text: linesIn(bytes) };
+  }
+
+  private roomOfTotal(): Place {
+    return this.total ??= this.room(TOTAL_LENGTH);
   }
 
   private view({ at, length }: Place): DataView {

@@ -69,6 +69,14 @@ export const COMMANDS = rows({
 
 export type Command = keyof typeof COMMANDS;
 
+/** The files of an election of a folder: its name without `.pb`, and the certificates that it has. */
+export interface EntryFiles {
+  readonly name: Place;
+  readonly election: Place;
+  readonly prices?: Place | undefined;
+  readonly violation?: Place | undefined;
+}
+
 /** A call: the function, and its words but for the room of the answer. */
 export interface Call {
   readonly name: string;
@@ -93,8 +101,7 @@ function fileOf(command: Command, { files }: Question, role: Role): Word[] {
   return given(files[role] ?? (needs.includes(role) ? undefined : { ...files.election!, length: 0n }));
 }
 
-const switchesOf = ({ mode: { stable, exhaustive, cover } }: Question): Word[] =>
-  [stable, exhaustive, cover].map(Number);
+const switchesOf = ({ stable, exhaustive, cover }: Mode): Word[] => [stable, exhaustive, cover].map(Number);
 
 const hasOutcome = ({ files }: Question): Word => Number(files.outcome !== undefined);
 
@@ -110,7 +117,7 @@ export function reportCall(command: Command, asked: Question): Call {
   if (number === undefined) throw new TypeError(`${command} is no question`);
   const words = [
     number, ...file("election"), ...file("outcome"), hasOutcome(asked), ...file("certificate"), ...file("violation"),
-    ...switchesOf(asked),
+    ...switchesOf(asked.mode),
   ];
   return { name: "pbaudit_report", words };
 }
@@ -125,6 +132,19 @@ export function pageCall(command: PageCommand, asked: Question, facts: Place): C
   if (command === "groupsPage") {
     return { name: "pbaudit_groups_page", words: [...begin, Number(measureOf(asked) === "count"), ...end] };
   }
-  const words = [...begin, ...file("certificate"), ...given(names.certificate), ...switchesOf(asked), ...end];
+  const words = [...begin, ...file("certificate"), ...given(names.certificate), ...switchesOf(asked.mode), ...end];
   return { name: "pbaudit_answer_page", words };
 }
+
+/** How a file of an entry is: missing, or there. */
+const MISSING = 0, THERE = 1;
+
+/** The call on the files of an election of a folder. How many are answered how goes to a place. */
+export function entryCall({ name, election, prices, violation }: EntryFiles, mode: Mode, total: Place): Call {
+  const file = (place: Place | undefined): Word[] => place ? [THERE, ...given(place)] : [MISSING, election.at, 0n];
+  const words = [...given(name), ...file(election), ...file(prices), ...file(violation), ...switchesOf(mode), total.at];
+  return { name: "pbaudit_folder_entry", words };
+}
+
+/** The call for what is told of a total. */
+export const totalCall = (total: Place): Call => ({ name: "pbaudit_folder_total", words: [total.at] });

@@ -142,6 +142,15 @@ export interface RefusalObject {
 /** What is said in one line. */
 export type LineObject = ReadObject | VerdictObject | RefusalObject;
 
+/** What is found of an election of a folder and of its certificates, which are null where they aren't audited. */
+export interface EntryObject {
+  readonly kind: "entry";
+  readonly name: string;
+  readonly election: ReadObject | RefusalObject;
+  readonly prices: PricesObject | RefusalObject | null;
+  readonly violation: ViolationObject | RefusalObject | null;
+}
+
 export type AnswerObject = LineObject | BothObject | MarginsObject | GroupMarginsObject;
 
 /** The number of the refusal for want of an outcome. */

@@ -1,8 +1,8 @@
-/* What the library tells of a question in one call (pbaudit_report in pbaudit.h): two lines of JSON, which are read, and
-   behind them the text for people, which is handed on as it is. */
+/* What the library tells in one call (pbaudit.h): of a question two lines of JSON (pbaudit_report), of the files of a folder
+   one (pbaudit_folder_entry, pbaudit_folder_total). These are read, and the text for people behind them is handed on as it is. */
 
 import { objectIn } from "./objects.js";
-import type { AnswerObject, RefusalObject } from "./objects.js";
+import type { AnswerObject, EntryObject, RefusalObject } from "./objects.js";
 
 /** Why a file is refused: the line of the file on which what was refused begins, where it has one, and sentences. */
 export interface Hint {
@@ -21,18 +21,45 @@ export interface Beside {
 export interface Reply {
   readonly status: number;
   readonly beside: Beside;
-  readonly object?: AnswerObject;
+  readonly object: AnswerObject | undefined;
   readonly text: Uint8Array;
+}
+
+/** The counts of a total, in the order of pbaudit_total. */
+export const COUNTS = ["elections", "yes", "no", "refused"] as const;
+
+/** How many files of a folder are answered how. */
+export type Total = Readonly<Record<typeof COUNTS[number], number>>;
+
+/** What is told of an election of a folder and of its certificates. */
+export interface ToldEntry {
+  readonly object: EntryObject;
+  readonly text: string;
+  readonly total: Total;
 }
 
 const LINE_FEED = 10;
 
-export const decoded = (bytes: Uint8Array): string => new TextDecoder().decode(bytes);
+/** The text of bytes. What a name begins with is part of it, be it a byte order mark. */
+export const decoded = (bytes: Uint8Array): string => new TextDecoder("utf-8", { ignoreBOM: true }).decode(bytes);
+
+/** The value of the line of JSON at the front, and what is behind it. */
+function jsonAhead(bytes: Uint8Array): [unknown, Uint8Array] {
+  const behind = bytes.indexOf(LINE_FEED) + 1;
+  return [objectIn(decoded(bytes.subarray(0, behind))), bytes.subarray(behind)];
+}
 
 /** The reply that a call has written. */
 export function replyIn(status: number, bytes: Uint8Array, hasObject: boolean): Reply {
-  const behind = bytes.indexOf(LINE_FEED) + 1, end = hasObject ? bytes.indexOf(LINE_FEED, behind) + 1 : behind;
-  const beside = objectIn(decoded(bytes.subarray(0, behind))) as Beside;
-  const object = hasObject ? objectIn(decoded(bytes.subarray(behind, end))) as AnswerObject : undefined;
-  return { status, beside, object, text: bytes.subarray(end) };
+  const [beside, rest] = jsonAhead(bytes), [object, text] = hasObject ? jsonAhead(rest) : [undefined, rest];
+  return { status, beside: beside as Beside, object: object as AnswerObject | undefined, text };
 }
+
+/** What a call has written of an election of a folder. */
+export function entryIn(bytes: Uint8Array, total: Total): ToldEntry {
+  const [object, text] = jsonAhead(bytes);
+  return { object: object as EntryObject, text: decoded(text), total };
+}
+
+/** The lines that a call has written behind an object that says the same. */
+export const linesIn = (bytes: Uint8Array): string => decoded(jsonAhead(bytes)[1]);

@@ -10,7 +10,7 @@ export interface Entry {
   readonly roles: readonly EntryRole[];
 }
 
-const ROLES = Object.keys(ENDINGS) as EntryRole[];
+export const ROLES = Object.keys(ENDINGS) as EntryRole[];
 
 const isEntryName = (name: string): boolean =>
   name !== "" && [...name].every(letter => letter >= " " && letter !== "\u007f");

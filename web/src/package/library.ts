@@ -6,13 +6,13 @@ import { decoded } from "../auditor/replies.js";
 import { isOutOfMemory, LONGEST_FILE, OutOfMemory } from "../auditor/statuses.js";
 import { ENDINGS, entriesOf } from "./entries.js";
 import { bothIn, pageIn, readingIn, refusalIn, verdictIn } from "./facts.js";
-import { ASKED, foundIn, reportOf } from "./report.js";
+import { keptOf, reportOf } from "./report.js";
 import type { Auditor as Calls } from "../auditor/auditor.js";
 import type { Command, PageCommand, Place, Question } from "../auditor/commands.js";
 import type { BothObject, ReadObject, VerdictObject } from "../auditor/objects.js";
-import type { Reply } from "../auditor/replies.js";
+import type { Reply, ToldEntry } from "../auditor/replies.js";
 import type { HEADLINES } from "../words/headlines.js";
-import type { EntryRole } from "./entries.js";
+import type { Entry, EntryRole } from "./entries.js";
 import type { Both, Page, Reading, Refused, Report, Verdict, Written } from "./facts.js";
 import type { CallName, Handed, HandedFolder, Names } from "./handed.js";
 
@@ -108,13 +108,13 @@ export class Library {
 
   /** The report on a folder, whose files are had when their turn comes. */
   folder({ files, mode }: HandedFolder<() => Uint8Array>): Report {
-    return reportOf(foundIn(entriesOf([...files.keys()]), ({ name }, does) => this.use(calls => {
+    const told = ({ name, roles }: Entry): ToldEntry => this.use(calls => {
       const fileOf = (role: EntryRole): Place => put(calls, files.get(`${name}${ENDINGS[role]}`)!());
-      const election = fileOf("election");
-      return does(role => {
-        const certificate = role === "election" ? {} : { certificate: fileOf(role) };
-        return calls.report(ASKED[role], { files: { election, ...certificate }, names: {}, mode });
-      });
-    })));
+      const beside = (role: EntryRole): Place | undefined => roles.includes(role) ? fileOf(role) : undefined;
+      const election = fileOf("election"), prices = beside("prices"), violation = beside("violation");
+      return calls.entry({ name: calls.putText(name), election, prices, violation }, mode);
+    });
+    const kept = entriesOf([...files.keys()]).map(entry => keptOf(told(entry)));
+    return reportOf(kept, total => this.use(calls => calls.ofTotal(total)));
   }
 }

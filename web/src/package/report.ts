@@ -1,62 +1,38 @@
-/* The report on a folder: a line for each file, and the total. */
+/* The report on a folder, of what the library tells of one election after the other. */
 
-import { lineOf, saidBy } from "../auditor/says.js";
-import { NO, REFUSED, YES } from "../auditor/statuses.js";
-import { ENDINGS } from "./entries.js";
-import type { LineObject } from "../auditor/objects.js";
-import type { Reply } from "../auditor/replies.js";
-import type { Line } from "../auditor/says.js";
-import type { Entry, EntryRole } from "./entries.js";
+import { COUNTS } from "../auditor/replies.js";
+import { saidBy } from "../auditor/says.js";
+import { ENDINGS, ROLES } from "./entries.js";
+import type { SaidOfTotal } from "../auditor/auditor.js";
+import type { EntryObject } from "../auditor/objects.js";
+import type { ToldEntry, Total } from "../auditor/replies.js";
 import type { Report, Reported } from "./facts.js";
 
-/** Asks about the election of an entry, or about a certificate beside it. */
-export type AskEntry = (role: EntryRole) => Reply;
-/** Does something that asks about the files of an entry. */
-export type OnEntry = (entry: Entry, does: (ask: AskEntry) => Row[]) => Row[];
-
-/** The command that is asked of each. */
-export const ASKED = { election: "read", prices: "prices", violation: "violation" } as const;
-
-/** What is said of a file. */
-export interface Row {
-  readonly role: EntryRole;
-  readonly status: number;
-  readonly says: Line;
+/** What is kept of an entry: what is said of each of its files, its lines, and its total. */
+interface Kept {
+  readonly files: readonly Reported[];
+  readonly text: string;
+  readonly total: Total;
 }
 
-/** What is said of the files of an election. */
-export interface Found {
-  readonly name: string;
-  readonly rows: readonly Row[];
-}
+const NO_FILES: Total = { elections: 0, yes: 0, no: 0, refused: 0 };
 
-/** What is said of the files of an entry. If its election is refused, nothing is said of the others. */
-function rowsOf(entry: Entry, ask: AskEntry): Row[] {
-  const rows: Row[] = [];
-  for (const role of entry.roles) {
-    const { status, object } = ask(role), says = saidBy(object as LineObject);
-    rows.push({ role, status, says });
-    if (role === "election" && status === REFUSED) break;
-  }
-  return rows;
-}
+/** What is said of each file that was audited. */
+const filesIn = (object: EntryObject): Reported[] => ROLES.flatMap(role => {
+  const found = object[role];
+  return found ? [{ file: `${object.name}${ENDINGS[role]}`, says: saidBy(found) }] : [];
+});
 
-export const foundIn = (entries: readonly Entry[], on: OnEntry): Found[] =>
-  entries.map(entry => ({ name: entry.name, rows: on(entry, ask => rowsOf(entry, ask)) }));
+export const keptOf = ({ object, text, total }: ToldEntry): Kept => ({ files: filesIn(object), text, total });
 
-/** How many answers are which. That an election was read is none. */
-function totalOf(found: readonly Found[]): Record<"yes" | "no" | "refused", number> {
-  const rows = found.flatMap(each => each.rows);
-  const count = (status: number): number =>
-    rows.filter(row => row.status === status && (row.role !== "election" || status === REFUSED)).length;
-  return { yes: count(YES), no: count(NO), refused: count(REFUSED) };
-}
+const added = (one: Total, other: Total): Total =>
+  Object.fromEntries(COUNTS.map(name => [name, one[name] + other[name]])) as Total;
 
-export function reportOf(found: readonly Found[]): Report {
-  const { yes, no, refused } = totalOf(found), nameOf = (name: string, { role }: Row): string => `${name}${ENDINGS[role]}`;
-  const total = `total ${found.length} elections ${yes} yes ${no} no ${refused} refused`;
-  const lines = found.flatMap(({ name, rows }) => rows.map(row => `${nameOf(name, row)}: ${lineOf(row.says)}`));
-  const files = found.flatMap(({ name, rows }) => rows.map((row): Reported => ({ file: nameOf(name, row), says: row.says })));
-  const text = [...lines, total].map(line => `${line}\n`).join("");
-  return { status: refused > 0 ? 2 : no > 0 ? 1 : 0, answer: "report", files, text };
+/** The report of what is kept of the elections, in their order, and of what is said of their total. */
+export function reportOf(kept: readonly Kept[], said: (total: Total) => SaidOfTotal): Report {
+  const { status, text } = said(kept.map(each => each.total).reduce(added, NO_FILES));
+  return {
+    status: status as Report["status"], answer: "report", files: kept.flatMap(each => each.files),
+    text: [...kept.map(each => each.text), text].join(""),
+  };
 }

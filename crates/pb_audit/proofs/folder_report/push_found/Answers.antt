@@ -6,9 +6,9 @@ use Rattle.pb_audit.proofs.folder_report.push_found.Goals as goal
 pub returns : goal.returns
 returns c =
     on_ok_weaker c.push_certificate-2.result
-    (λ last. found_text c.as_str-name.result.now (string_bytes c.args.entry.now.name) c.args.found.now.read
+    (λ last. found_text c.args.name.now c.args.found.now.read
     c.args.found.now.prices c.args.found.now.violation
     (string_bytes c.args.text.now) (string_bytes c.push_file.new.text) (string_bytes c.push_certificate.new.text)
     (string_bytes c.push_certificate-2.new.text)
-    c.as_str-name.ensures.value c.in_ok-push_file.ensures c.in_ok-push_certificate.ensures last)
+    c.in_ok-push_file.ensures c.in_ok-push_certificate.ensures last)
     c.push_certificate-2.ensures

@@ -10,5 +10,5 @@ returns-clause-json c = on_ok_weaker c.push_line.result
     (λ added. record {
       line = string_bytes c.in_ok-line.line;
       json = (_, c.in_ok-line.ensures.reads_back);
-      added = subst (λ (l : Text). string_bytes c.push_line.new.text ≡ string_bytes c.args.text.now ++ text_of (l ∷ [])) c.deref-2.ensures added;
+      added = subst (λ (l : Text). string_bytes c.push_line.new.text ≡ string_bytes c.args.text.now ++ text_of (l ∷ [])) c.deref.ensures added;
     }) c.push_line.ensures

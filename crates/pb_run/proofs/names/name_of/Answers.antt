@@ -1,5 +1,5 @@
 use Rattle.std.proofs.Common.{◌≡◌, ◌++◌, rules, true, false}
-use Rattle.pb_run.specs.Listings.{is_clean}
+use Rattle.pb_audit.specs.Names.{is_clean}
 use Rattle.pb_run.proofs.Stems.{is_stem, not_clean}
 use Rattle.pb_run.proofs.names.name_of.Goals as goal
 
