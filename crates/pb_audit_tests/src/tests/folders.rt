@@ -1,7 +1,11 @@
 //! The report on entries of a folder.
-use pb_audit::{Entry, FolderReport, FolderStatus, Loaded, folder_text};
+use pb_audit::{
+    Entry, FolderReport, FolderStatus, LentEntry, Loaded, ToldEntry, Total, folder_text,
+    told_of_total,
+};
 use pb_election::Output;
 use pb_price::Mode;
+use pb_reply::File;
 use pb_samples::files::{ELECTION, FAIR_VIOLATION, PRICES};
 use std::alloc::{AllocError, Global};
 use std::test::Fail;
@@ -71,5 +75,41 @@ fn entries_are_reported_as_objects(rt: HostRuntime) -> Result<(), Fail> {
         {\"elections\":1,\"kind\":\"total\",\"no\":0,\"refused\":1,\"version\":1,\"yes\":0}\n";
     assert!(rt; report.text.as_slice() == want.as_bytes());
     assert!(rt; report.status == FolderStatus::SomeRefused);
+    Ok(())
+}
+
+const LINES: &str = "\
+one.pb: read 3 voters 3 projects 2 funded
+one.prices.csv: supported priceable
+one.violation.csv: refused certificate 18 Read record 0
+";
+
+const TOTAL: &str = "\
+{\"elections\":1,\"kind\":\"total\",\"no\":0,\"refused\":1,\"version\":1,\"yes\":1}
+total 1 elections 1 yes 0 no 1 refused
+";
+
+#[test]
+fn entries_are_told_of_by_themselves(rt: HostRuntime) -> Result<(), Fail> {
+    let alloc = rt.alloc();
+    let entry = LentEntry {
+        name: "one",
+        election: File::in_memory(ELECTION.as_bytes()),
+        prices: Some(File::in_memory(PRICES.as_bytes())),
+        violation: Some(File::Unread),
+    };
+    let told = ToldEntry::on(alloc, entry, Mode::PLAIN)?;
+    let one = Total {
+        elections: 1,
+        yes: 1,
+        no: 0,
+        refused: 1,
+    };
+    assert!(rt; told.total == one);
+    assert!(rt; told.text.as_slice().starts_with(b"{\"election\":"));
+    assert!(rt; told.text.as_slice().ends_with(LINES.as_bytes()));
+    let end = told_of_total(alloc, told.total)?;
+    assert!(rt; end.text.as_slice() == TOTAL.as_bytes());
+    assert!(rt; end.status == FolderStatus::SomeRefused);
     Ok(())
 }
