@@ -30,6 +30,14 @@ def ends(name, what):
     return f"{name} ends with {what}"
 
 
+def checks(name, kinds):
+    return f"{name} checks {', '.join(kinds)}"
+
+
+def hands(name, words):
+    return f"{name} is handed {', '.join(f'{at} {what}' for at, what in words)}"
+
+
 def list_of(text):
     return [each.strip() for each in text.split(",") if each.strip()]
 
@@ -52,6 +60,22 @@ def shown_in_python(kind):
 def shown_in_javascript(kind, _part):
     """How WebAssembly takes a type, with addresses of 64 bits."""
     return "bigint" if kind.endswith("*") or kind in ("size_t", "uint64_t") else "number"
+
+
+# What a parameter of C is for the addon for Node, by its type; of an address with a length behind it, the two.
+_OF_ADDON = {"uint8_t": "BYTE", "bool": "BOOL", "const uint8_t * size_t": "BYTES", "uint8_t * size_t": "ROOM", "size_t *": "NEEDED",
+             "uint8_t *": "KIND", "pbaudit_facts *": "FACTS", "pbaudit_total *": "TOTAL", "const pbaudit_total *": "GIVEN_TOTAL"}  # fmt: skip
+
+
+def kinds_for_addon(parts):
+    """What the parameters of a call are, with their types."""
+    at = 0
+    while at < len(parts):
+        kinds = [kind for kind, name in parts[at:at + 2] if at + 1 < len(parts)]
+        has_length = kinds[1:] == ["size_t"] and f"{kinds[0]} size_t" in _OF_ADDON
+        types = kinds if has_length else [parts[at][0]]
+        yield _OF_ADDON[" ".join(types)], types
+        at += len(types)
 
 
 def types_with(structs):
@@ -90,7 +114,8 @@ class Border:
 
     def wanted(self, place):
         """What a place has to say."""
-        more = {"header": self._header, "crates": self._crates, "python": self._python, "web/src": self._web, "tests": self._tests}
+        more = {"header": self._header, "crates": self._crates, "python": self._python, "web/src": self._web, "web/addon.c": self._addon,
+                "tests": self._tests}  # fmt: skip
         return self._numbers(place) | (more[place]() if place in more else set())
 
     def _numbers(self, place):
@@ -110,6 +135,13 @@ class Border:
     def _web(self):
         rooms = {f"{name} takes {ctypes.sizeof(self.types[f'pbaudit_{name}'])} bytes" for name in ("facts", "total")}
         return self._called("web/src", shown_in_javascript) | self._asked() | self._takes("election", *_CERTIFICATES) | self._answers() | rooms
+
+    def _addon(self):
+        """The calls of the scripts: what their words are checked for, and how these are handed over."""
+        calls = {row["name"]: self.calls[row["name"]] for row in self.groups["calls"] if row["web/src"] != "-"}
+        handed = {name: ["at" if kind.endswith("*") else "number" for kind, _ in parts] for name, parts in calls.items()}
+        return {checks(name, (kind for kind, _ in kinds_for_addon(parts))) for name, parts in calls.items()} | {
+            hands(name, enumerate(words)) for name, words in handed.items()}
 
     def _tests(self):
         structs = {name: [(self._in_python(*each), each[1]) for each in fields] for name, fields in self.structs.items()}

@@ -4,7 +4,7 @@ the callers say."""
 import re
 
 import header
-from border import ends, lines_in_c, list_of, numbered, parts_of, takes
+from border import checks, ends, hands, lines_in_c, list_of, numbered, parts_of, takes
 from common import HERE, TOP
 
 CRATE, PACKAGE = TOP / "crates/pb_c/src", TOP / "python/pbaudit"
@@ -14,6 +14,7 @@ FILES = {
         "pb_audit/src/total.rt", "pb_cohesion/src/failed.rt", "pb_price/src/telling.rt", "pb_reply/src/loaded.rt"))],
     "python": [PACKAGE / name for name in ("_auditor.py", "_places.py", "files.py")],
     "web/src": [*(TOP / "web/src").rglob("*.ts")],
+    "web/addon.c": [TOP / "web/addon.c"],
     "tests": [HERE / "c_library.py"],
     "FORMATS.md": [TOP / "docs/FORMATS.md"],
 }
@@ -143,6 +144,19 @@ def numbers_in_crates(texts):
               "faults": re.findall(r"(\d+) => (?:Some\()?(\w+Fault::\w+)\)?,", faults)}  # fmt: skip
     yield from (numbered(group, number, name) for group, rows in ahead.items() for name, number in rows)
     yield from (numbered(group, number, name) for group, rows in behind.items() for number, name in rows)
+
+
+def in_addon(texts):
+    """What the addon for Node checks of the words of each call, and how it hands them over."""
+    [text] = texts.values()
+    calls = dict(re.findall(r"^static uint8_t (\w+)\(const struct word \*w\) \{\s+return (.*?);\s+\}", text, re.MULTILINE | re.DOTALL))
+    for name, call, kinds in re.findall(r'\{"(\w+)", (\w+),\s+\{([A-Z_, ]+)\}\}', text):
+        called, words = re.fullmatch(r"(\w+)\((.*)\)", calls.pop(call), re.DOTALL).groups()
+        yield checks(name, list_of(kinds))
+        if called != name:
+            yield f"{name} calls {called}"
+        yield hands(called, re.findall(r"w\[(\d+)\]\.(\w+)", words))
+    yield from (f"{call} isn't in the table" for call in calls)
 
 
 def faults_of_formats(text):

@@ -19,15 +19,15 @@ function exportsOf(name) {
   return exported.exports;
 }
 
-const [{ Auditor, FACTS_LENGTH }, { ABOUT_PAGE, isPage, pageCall, reportCall }, { lineOf, saidBy }, { NO_MEMORY }] =
-  ["auditor", "commands", "says", "statuses"].map(exportsOf);
+const [{ Auditor, FACTS_LENGTH }, { ABOUT_PAGE, isPage, pageCall, reportCall }, { ofModule }, { lineOf, saidBy }, { NO_MEMORY }] =
+  ["auditor", "commands", "loaded", "says", "statuses"].map(exportsOf);
 const page = fs.readFileSync(process.argv[2], "utf8");
 const [, written] = /<script type="text\/plain" id="module">(.*?)<\/script>/s.exec(page);
 const UNTOUCHED = 0xaa, ROOM = 1 << 22;
 // By how many bytes the memory that is left is raised.
 const STEP = 144;
 
-const module_ = new WebAssembly.Module(Buffer.from(written, "base64"));
+const load = ofModule(new WebAssembly.Module(Buffer.from(written, "base64")));
 
 function questionOf(auditor, { files, names = {}, mode, measure = "cost", language = "en" }) {
   const asked = { mode, measure, files: {}, names: {}, language: auditor.putText(language) };
@@ -43,12 +43,12 @@ function saysOf({ object }) {
 }
 
 const kindOf = ({ kind: file }) => {
-  const auditor = new Auditor(module_);
+  const auditor = new Auditor(load());
   return { kind: auditor.kindOf(auditor.put(Buffer.from(file, "base64"))) };
 };
 
 function answer(call) {
-  const auditor = new Auditor(module_), asked = questionOf(auditor, call), { command, guess } = call;
+  const auditor = new Auditor(load()), asked = questionOf(auditor, call), { command, guess } = call;
   const reply = auditor.report(isPage(command) ? ABOUT_PAGE[command] : command, asked, guess);
   const { status, bytes } = isPage(command) ? auditor.page(command, asked) : { status: reply.status, bytes: reply.text };
   const { hint, notes } = reply.beside, says = saysOf(reply);
@@ -61,7 +61,7 @@ const rawCall = (auditor, command, asked) =>
 
 /** How a call ends with so many bytes of memory left: out of memory with nothing written, as usual, or wrongly. */
 function endOf(call, left, usual) {
-  const auditor = new Auditor(module_), asked = questionOf(auditor, call);
+  const auditor = new Auditor(load()), asked = questionOf(auditor, call);
   const out = auditor.room(usual.length), needed = auditor.room(8), { name, words } = rawCall(auditor, call.command, asked);
   auditor.bytes(out).fill(UNTOUCHED);
   auditor.room(auditor.calls.memory.buffer.byteLength - Number(auditor.room(0).at) - left);
@@ -73,7 +73,7 @@ function endOf(call, left, usual) {
 
 /** Makes a call with less memory than it needs, so that each allocation fails: how often it ended in which way. */
 function starve(call) {
-  const auditor = new Auditor(module_), asked = questionOf(auditor, call);
+  const auditor = new Auditor(load()), asked = questionOf(auditor, call);
   const { status, bytes } = auditor.call(rawCall(auditor, call.command, asked), ROOM);
   const usual = { status, text: Buffer.from(bytes), length: bytes.length }, counts = { failed: 0, answered: 0, wrong: 0 };
   for (let left = 0; counts.answered < 20 && counts.wrong === 0; left += STEP) counts[endOf(call, left, usual)]++;

@@ -1,6 +1,6 @@
 """Tries the C library for ARM under qemu-user: what it asks of glibc, its caller on the examples and on cases with a damaged file
-beside the program, that each of its allocations may fail, and the tests of the Python package by an ARM Python. That Python is
-taken from --arm-root, a folder into which Debian's packages for arm64 were unpacked:
+beside the program, that each of its allocations may fail, the native code for Node by a host that stands in for it
+(addon_host.c), and the tests of the Python package by an ARM Python. That Python is taken from --arm-root, a folder into which Debian's packages for arm64 were unpacked:
 
     apt-get download python3.11-minimal:arm64 libpython3.11-minimal:arm64 libpython3.11-stdlib:arm64 libc6:arm64 libgcc-s1:arm64 \\
         zlib1g:arm64 libexpat1:arm64 libssl3:arm64 libbz2-1.0:arm64 liblzma5:arm64 libffi8:arm64 libsqlite3-0:arm64 \\
@@ -62,6 +62,27 @@ def test_by_chance(run, arm_caller, seed, by_chance, room):
     wanted = run(*case.words, cwd=room)
     ran = told_by([*arm_caller, "once", *calls.caller_words(case.words)], room)
     assert (ran.returncode, ran.stdout) == (wanted.returncode, wanted.stdout)
+
+
+@pytest.fixture(scope="module")
+def arm_host(arm_library, tmp_path_factory):
+    """The words that run the native code for Node in its host."""
+    needs("aarch64-linux-gnu-gcc", "qemu-aarch64")
+    folder, compiler = tmp_path_factory.mktemp("host"), "aarch64-linux-gnu-gcc"
+    subprocess.run([TOP / "packaging/link-addon", arm_library / "libpbaudit.a", folder / "pbaudit-linux-arm64.node"], check=True,
+                   env=os.environ | {"CC": compiler})  # fmt: skip
+    words = [compiler, "-std=gnu11", "-O1", "-Wall", "-Wextra", "-Werror", "-rdynamic", "-o", folder / "host", HERE / "addon_host.c", "-ldl"]
+    subprocess.run(words, check=True)
+    return ["qemu-aarch64", "-L", "/usr/aarch64-linux-gnu", folder / "host", folder / "pbaudit-linux-arm64.node"]
+
+
+@pytest.mark.parametrize("certificate, status", [("prices", 0), ("short.prices", 1), ("violation", 2)])
+def test_native_code_for_node(run, arm_host, certificate, status):
+    """What it reports ends with the object and the text of the program; and a word that is misaligned is refused."""
+    files = ["district.pb", f"district.{certificate}.csv"]
+    ran = told_by([*arm_host, *files])
+    wanted = run("prices", *files, "--json").stdout + run("prices", *files).stdout
+    assert (ran.returncode, ran.stdout.partition(b"\n")[2]) == (status, wanted)
 
 
 @pytest.fixture(scope="module")

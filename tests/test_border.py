@@ -1,8 +1,8 @@
 """Compares each place that has the border of the C library by hand with what tables/border.txt has for it, both ways, and without a
-build: the header, the sources of the crates, the Python package, the scripts of the page, c_library.py, and FORMATS. And it turns each
-place by the changes of tables/wrong_borders.txt, which have to be seen; so has a change of the table itself, in those places alone that
-are compared with what is changed. The number of the interface, which stands in the name of the library, is one wherever a file has
-it."""
+build: the header, the sources of the crates, the Python package, the scripts of the page, the addon for Node, c_library.py, and
+FORMATS. And it turns each place by the changes of tables/wrong_borders.txt, which have to be seen; so has a change of the table itself,
+in those places alone that are compared with what is changed. The number of the interface, which stands in the name of the library, is
+one wherever a file has it."""
 import functools
 import os
 import pathlib
@@ -22,6 +22,7 @@ TABLE = re.sub(" {2,}", "  ", (HERE / "tables/border.txt").read_text(encoding="u
 SAID = {
     "header": border_places.in_header, "crates": border_places.in_crates, "FORMATS.md": border_places.in_formats,
     "python": border_calls.in_python, "web/src": border_calls.in_web, "tests": border_calls.in_tests,
+    "web/addon.c": lambda texts: {*border_places.in_addon(texts)},
 }  # fmt: skip
 
 
@@ -55,7 +56,7 @@ EVERYWHERE = {"header", "crates", "python", "web/src", "tests"}
 
 @pytest.mark.parametrize("old, new, places", [
     ("uint8_t input, uint32_t number", "uint32_t number, uint8_t input", {"header", "crates", "tests"}),
-    ("pbaudit_groups  -  -", "pbaudit_groups  calls  -", {"python"}), ("pbaudit_groups  -  -", "pbaudit_groups  -  calls", {"web/src"}),
+    ("pbaudit_groups  -  -", "pbaudit_groups  calls  -", {"python"}), ("pbaudit_groups  -  -", "pbaudit_groups  -  calls", {"web/src", "web/addon.c"}),
     ("uint32_t number, uint32_t voter", "uint32_t voter, uint32_t number", {"header", "crates", "tests"}),
     ("record, pbaudit_culprit condition", "record, uint32_t more, pbaudit_culprit condition", EVERYWHERE),
     ("\n3  refutation", "\n14  refutation", EVERYWHERE - {"tests"}), ("\n4  out of memory", "\n5  out of memory", EVERYWHERE - {"tests"}),
@@ -65,7 +66,8 @@ EVERYWHERE = {"header", "crates", "python", "web/src", "tests"}
     ("election, prices  text", "election, prices  object", {"python", "web/src"}),
     ("\n6  margins  election, outcome, prices  object  0, 2, 4", "\n6  margins  election, outcome, prices  object  0, 1, 2, 4", {"header"}),
     ("pbaudit_kind  -  calls  calls  0, 4", "pbaudit_kind  -  calls  calls  0, 2, 4", {"header"}),
-    ("\n23  U3", "\n24  U3", {"header", "crates", "tests"}), ("\n17  NoOutcome", "\n30  NoOutcome", {"crates", "web/src", "FORMATS.md"}),
+    ("uint8_t *kind", "uint8_t *kind, bool more", EVERYWHERE - {"python"} | {"web/addon.c"}), ("\n23  U3", "\n24  U3", {"header", "crates", "tests"}),
+    ("\n17  NoOutcome", "\n30  NoOutcome", {"crates", "web/src", "FORMATS.md"}),
 ])  # fmt: skip
 def test_change_of_the_table_is_seen(old, new, places):
     assert TABLE.count(old) == 1

@@ -25,7 +25,7 @@ ARM_LIBRARY = EVERY | {"library", "arm-cc", "arm-ld"}
 PAGE = EVERY | {"page", "wasm-opt", "builtins", "esbuild"}
 RESTS_ON = {
     "libpbaudit.so": LIBRARY, "libpbaudit.a.xz": LIBRARY | {"xz"}, "pbaudit.h": LIBRARY, "pbaudit.pc": LIBRARY,
-    "-aarch64.tar.xz": ARM_LIBRARY | {"xz"}, "pbaudit.html": PAGE, ".tgz": PAGE | {"tsc", "zlib"},
+    "-aarch64.tar.xz": ARM_LIBRARY | {"xz"}, "pbaudit.html": PAGE, ".tgz": LIBRARY | ARM_LIBRARY | PAGE | {"tsc", "zlib"},
     "aarch64.whl": ARM_LIBRARY | {"python", "zlib"}, "-any.whl": PAGE | {"python", "zlib"}, ".whl": LIBRARY | {"python", "zlib"},
 }  # fmt: skip
 # What packs all of it, and what has the sums of all files.
@@ -71,10 +71,12 @@ def wrong_sums(folder):
 def why_not_compared(name, again):
     """Why a file of release/ may differ from what is built here, or None."""
     was, now = made_of(RELEASE), made_of(again)
-    parts = sorted(rests_on(name) & {part for part in was.keys() | now.keys() if was.get(part) != now.get(part)})
-    if parts:
-        return f"it is older, of another state of {', '.join(parts)}"
-    return None if (again / name).exists() else "it isn't built here"
+    others = sorted(rests_on(name) & {part for part in was.keys() | now.keys() if was.get(part) != now.get(part)})
+    if others:
+        return f"it is older, of another state of {', '.join(others)}"
+    # Of each library the package for JavaScript has native code.
+    parts = [name, "libpbaudit.a.xz", "libpbaudit-aarch64.tar.xz"] if name.endswith(".tgz") else [name]
+    return None if all((again / part).exists() for part in parts) else "it isn't built here"
 
 
 def glibc_of(file):
@@ -211,6 +213,16 @@ def test_hardening_of_the_library_for_arm(again, room):
     with lzma.open(the(again, "libpbaudit-aarch64.tar.xz")) as packed, tarfile.open(fileobj=packed) as files:
         (room / "library").write_bytes(files.extractfile(f"aarch64/{LIBRARY_NAME}").read())
     assert wants_of(room / "library") == []
+
+
+@pytest.mark.parametrize("machine", ["linux-x64", "linux-arm64"])
+def test_hardening_and_glibc_of_native_code_for_node(again, room, machine):
+    with tarfile.open(the(again, "*.tgz")) as package:
+        names = package.getnames()
+        if f"package/native/pbaudit-{machine}.node" not in names:
+            pytest.skip("it isn't built here")
+        (room / "addon").write_bytes(package.extractfile(f"package/native/pbaudit-{machine}.node").read())
+    assert wants_of(room / "addon") == [] and glibc_of(room / "addon") <= (2, 28)
 
 
 def test_want_of_hardening_is_seen(room):

@@ -17,6 +17,10 @@ SOURCES = {"version", "crates", "library", "page", "python", "packaging"}
 LINKED = re.compile(r"pbaudit|.*(\.so\.\d+|\.a\.xz|\.tar\.xz|\.whl|\.html|\.tgz)")
 
 
+# The package for JavaScript of this version had no native code yet, which these make.
+WITHOUT_NATIVE, MAKE_NATIVE = "pbaudit-0.3.0.tgz", {"cc", "ld", "arm-cc", "arm-ld"}
+
+
 def read(folder):
     return json.loads((folder / SPDX).read_text(encoding="utf-8"))
 
@@ -73,6 +77,8 @@ def wrong_relations(spdx, told):
     for each in spdx["files"]:
         name = each["fileName"].removeprefix("./")
         tools = rests_on(name) & told.keys() if is_linked(name) else set()
+        if name == WITHOUT_NATIVE:
+            tools -= MAKE_NATIVE
         wanted = wanted_crates(name) | (tools & {RUNTIME}), tools - {RUNTIME}
         if (related(spdx, "STATIC_LINK", each["SPDXID"], False), related(spdx, "BUILD_TOOL_OF", each["SPDXID"], True)) != wanted:
             yield f"what {name} is made of"

@@ -15,6 +15,7 @@ SCRIPTS = [*sorted((TOP / "bench").glob("*.py")), TOP / "docs/files.py"]
 WRONG = {
     "bench.py": [[], ["--unknown"], ["missing"], [sys.executable, "1"], [sys.executable, "10", "7"], [sys.executable, "x", "y"],
                  [sys.executable, "10", "10", "--plain=missing"]],
+    "calls.py": [[], [sys.executable], ["missing", "/", "/"], [sys.executable, "missing", "missing"]],
     "certificates.py": [["word"], ["--voters", "0"], ["--elections", "many"]],
     "ending.py": [["word"], ["--elections", "0"], ["--processors", "many"], ["--seconds", "-1"]],
     "files.py": [["pb_none"]],

@@ -5,6 +5,7 @@ import hashlib
 import os
 import re
 import shutil
+import tarfile
 
 import pytest
 
@@ -111,7 +112,9 @@ STAND_INS = {
                        f'ln -sf {LIBRARY_NAME} "$to/libpbaudit.so"; touch "$to/pbaudit.h" "$to/pbaudit.pc"',
     "pbaudit-web": 'mkdir -p "$1"; for name in html wasm; do cp "$WORD" "$1/pbaudit.$name"; done',
     "packaging/link": 'cp "$1" "$2"',
+    "packaging/link-addon": '{ cat "$1"; printf "\\n%s" "${CC:-cc}"; } > "$2"',
     "packaging/javascript": 'mkdir "$3/package"; for name in command.js pbaudit.wasm package.json; do cp "$WORD" "$3/package/$name"; done; '
+                            'cp "${@:4}" "$3/package"; '
                             'tar -C "$3" --mtime=@0 --owner=0 --group=0 --sort=name --remove-files -cf - package | '
                             'gzip -n > "$3/pbaudit-$("$here/version" --state).tgz"',
 }  # fmt: skip
@@ -191,6 +194,14 @@ def test_what_is_not_released(copy):
     assert {*copy.released()} <= {*files}
     told = ran("dpkg-deb", "-f", next((copy.room / "downloads").glob("*.deb")), "Version").stdout
     assert told == "9.9.8+unreleased-1\n"
+
+
+def test_package_for_javascript_has_native_code_of_both_libraries(copy):
+    copy.state("9.9.8", "Unreleased", "[9.9.8] - 2020-01-02")
+    assert copy.release()[0].returncode == 0
+    with tarfile.open(next((copy.room / "downloads").glob("*.tgz"))) as package:
+        native = {entry.name: package.extractfile(entry).read() for entry in package if entry.name.endswith(".node")}
+    assert native == {"package/pbaudit-linux-x64.node": b"one\ncc", "package/pbaudit-linux-arm64.node": b"one\naarch64-linux-gnu-gcc"}
 
 
 def test_version_is_what_it_was_at_first(copy):

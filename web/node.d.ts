@@ -26,10 +26,16 @@ declare module "node:fs" {
   export function readdirSync(path: string, how: { encoding: "buffer" }): Uint8Array[];
 }
 
+declare module "node:module" {
+  export function createRequire(from: string): (path: string) => unknown;
+}
+
 declare module "node:process" {
   const process: {
     readonly argv: readonly string[];
     readonly platform: string;
+    readonly arch: string;
+    readonly versions: Readonly<Record<string, string>>;
     exitCode: number;
   };
   export default process;

@@ -1,9 +1,9 @@
 """What the tests of the page and of the package for JavaScript share: browsers without windows, and the package."""
+import contextlib
 import pathlib
 import shutil
 import subprocess
 import sys
-import tarfile
 
 import pytest
 
@@ -13,6 +13,7 @@ sys.path.append(str(pathlib.Path(__file__).resolve().parent))
 sys.path.append(str(TOP / "python/tests"))
 
 import browsers  # noqa: E402 (where the tests are)
+from native import linked, native_of, unpacked  # noqa: E402
 from screens import narrow, widen  # noqa: E402
 from serving import Server  # noqa: E402
 from visiting import Visit  # noqa: E402
@@ -27,23 +28,56 @@ def command_module(page):
     return found[0]
 
 
+# Each library with native code for Node, its compiler, and the words that Node has for its machine.
+ADDONS = {"library": ("cc", "pbaudit-linux-x64"), "arm_library": ("aarch64-linux-gnu-gcc", "pbaudit-linux-arm64")}
+
+
 @pytest.fixture(scope="session")
-def packed(page, command_module, tmp_path_factory):
-    """The package for JavaScript, made of the page's module and the program's."""
+def addons(request, tmp_path_factory):
+    """The native code of the package, of each library that is there."""
+    folder = tmp_path_factory.mktemp("addons")
+    for name, (compiler, machine) in ADDONS.items():
+        with contextlib.suppress(pytest.skip.Exception):
+            library = request.getfixturevalue(name)
+            needs(compiler)
+            linked(library / "libpbaudit.a", folder / f"{machine}.node", CC=compiler)
+    return sorted(folder.iterdir())
+
+
+@pytest.fixture(scope="session")
+def packed(page, command_module, addons, tmp_path_factory):
+    """The package for JavaScript, made of the page's module, the program's, and the libraries."""
     folder = tmp_path_factory.mktemp("packed")
-    subprocess.run([TOP / "packaging" / "javascript", page, command_module, folder], stdout=subprocess.DEVNULL, check=True)
+    subprocess.run([TOP / "packaging" / "javascript", page, command_module, folder, *addons], stdout=subprocess.DEVNULL, check=True)
     return next(folder.iterdir())
 
 
 @pytest.fixture(scope="session")
 def installed(packed, tmp_path_factory):
     """A folder in which a script may import the package."""
-    folder = tmp_path_factory.mktemp("installed")
-    (folder / "node_modules").mkdir()
-    with tarfile.open(packed) as package:
-        package.extractall(folder / "node_modules")
-    (folder / "node_modules" / "package").rename(folder / "node_modules" / "pbaudit")
+    return unpacked(packed, tmp_path_factory.mktemp("installed"))
+
+
+@pytest.fixture(scope="session")
+def natively(installed):
+    """The same, where the package has native code for this machine."""
+    if not native_of(installed).exists():
+        pytest.skip("the library isn't built, nor native code of it")
+    return installed
+
+
+@pytest.fixture(scope="session")
+def by_module(packed, tmp_path_factory):
+    """Such a folder with the package as it is on a machine for which it has no native code."""
+    folder = unpacked(packed, tmp_path_factory.mktemp("by_module"))
+    shutil.rmtree(folder / "node_modules/pbaudit/native", ignore_errors=True)
     return folder
+
+
+@pytest.fixture(scope="session", params=["natively", "by_module"])
+def either(request, packed):
+    """Each of the two."""
+    return request.getfixturevalue(request.param)
 
 
 @pytest.fixture(scope="session")

@@ -13,8 +13,8 @@ function exportsOf(...names) {
   return exported.exports;
 }
 
-const { Auditor, Keeper, MOST_KEPT, OutOfMemory, isPage } = exportsOf("auditor", "commands", "keeper", "statuses");
-const module_ = new WebAssembly.Module(fs.readFileSync(process.argv[2]));
+const { Auditor, Keeper, MOST_KEPT, OutOfMemory, isPage, ofModule } = exportsOf("auditor", "commands", "keeper", "loaded", "statuses");
+const load = ofModule(new WebAssembly.Module(fs.readFileSync(process.argv[2])));
 const file = name => fs.readFileSync(path.join(process.argv[3], name));
 const mode = { stable: true, exhaustive: true, cover: false };
 const HEAD = "META\nkey;value\nbudget;9\nvote_type;approval\nPROJECTS\nproject_id;cost;selected\na;9;1\nVOTES\nvoter_id;vote\n";
@@ -60,7 +60,7 @@ function isSameMemory(one, another) {
 }
 
 for (const [name, does] of Object.entries(BEFORE)) {
-  const keeper = new Keeper(module_), told = { name };
+  const keeper = new Keeper(load), told = { name };
   const first = keeper.use(auditor => auditor);
   try {
     keeper.use(does);
@@ -68,9 +68,9 @@ for (const [name, does] of Object.entries(BEFORE)) {
     told.error = error instanceof OutOfMemory ? "OutOfMemory" : error.constructor.name;
   }
   told.isKept = keeper.use(auditor => auditor) === first;
-  told.isClean = keeper.use(auditor => isSameMemory(auditor, new Auditor(module_)));
+  told.isClean = keeper.use(auditor => isSameMemory(auditor, new Auditor(load())));
   told.differ = ASKED.filter(asked => {
-    const [kept, fresh] = [keeper.use(auditor => ask(auditor, ...asked)), ask(new Auditor(module_), ...asked)];
+    const [kept, fresh] = [keeper.use(auditor => ask(auditor, ...asked)), ask(new Auditor(load()), ...asked)];
     return JSON.stringify(kept) !== JSON.stringify(fresh);
   }).map(([command]) => command);
   console.log(JSON.stringify(told));

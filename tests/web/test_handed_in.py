@@ -30,8 +30,8 @@ NO_FOLDER = ["null", "undefined", "1", "'a.pb'", "{}", "{ 'a.pb': pb }", "['a.pb
 
 
 @pytest.fixture(scope="module")
-def evaluate(installed):
-    with handing.evaluating(installed) as by:
+def evaluate(either):
+    with handing.evaluating(either) as by:
         yield by
 
 

@@ -4,6 +4,7 @@ command is tried by test_command.py.
 `pytest tests --program COMMAND`, with the package's command.js, runs all else that is tried on the program.
 """
 import concurrent.futures
+import io
 import json
 import os
 import random
@@ -191,9 +192,9 @@ def test_words_by_chance(program, command, tmp_path):
 
 
 @pytest.fixture(scope="module")
-def told(installed):
-    (installed / "caller.mjs").write_text(CALLER)
-    ran = subprocess.run(["node", "caller.mjs", EXAMPLES], cwd=installed, stdout=subprocess.PIPE, check=True)
+def told(either):
+    (either / "caller.mjs").write_text(CALLER)
+    ran = subprocess.run(["node", "caller.mjs", EXAMPLES], cwd=either, stdout=subprocess.PIPE, check=True)
     return json.loads(ran.stdout)
 
 
@@ -202,14 +203,14 @@ def told(installed):
     ("violation", (2, b"refused certificate 21 BadHead record 1\n",
                    b"line 1: expected the record pb-prices,1, but found 'pb-violation,1'\n"
                    b"this is a violation certificate, not a price certificate\n"))])  # fmt: skip
-def test_the_example_of_the_documents(installed, certificate, wanted):
+def test_the_example_of_the_documents(either, certificate, wanted):
     """That of docs/LIBRARY.md, on the files that it names, and on one of another kind."""
     shown = (TOP / "docs/LIBRARY.md").read_text(encoding="utf-8")
     example = re.search(r"\n\n(    import \{ readFileSync \}(?:.|\n)*?)\n\n(?! {4})", shown)[1]
-    (installed / "verify.mjs").write_text(re.sub("^    ", "", example, flags=re.MULTILINE))
-    assert ends("node", ["verify.mjs", EXAMPLES / "district.pb", EXAMPLES / f"district.{certificate}.csv"], installed) == wanted
+    (either / "verify.mjs").write_text(re.sub("^    ", "", example, flags=re.MULTILINE))
+    assert ends("node", ["verify.mjs", EXAMPLES / "district.pb", EXAMPLES / f"district.{certificate}.csv"], either) == wanted
     # What is refused as a whole is on no line.
-    told = ends("node", ["verify.mjs", "/dev/null", EXAMPLES / f"district.{certificate}.csv"], installed)
+    told = ends("node", ["verify.mjs", "/dev/null", EXAMPLES / f"district.{certificate}.csv"], either)
     assert told == (2, b"refused election 2 NoMeta record 1\n", b"the file is blank; META is missing\n")
 
 
@@ -229,9 +230,9 @@ def test_verdicts_have_facts(told):
     (1999, False, "strict"), (1999, True, "strict"), (2000, False, "weak"), (2000, True, "strict"), (2001, False, "little"),
     (2001, True, "little"),
 ])  # fmt: skip
-def test_what_a_yes_says_of_groups(installed, budget, exhaustive, wanted):
+def test_what_a_yes_says_of_groups(either, budget, exhaustive, wanted):
     """Two voters have 1000 each. Nothing that they didn't get can be afforded, so Exhaustive holds."""
-    (installed / "groups.mjs").write_text(r"""
+    (either / "groups.mjs").write_text(r"""
 import { auditor } from 'pbaudit';
 const [budget, exhaustive] = JSON.parse(process.argv[2]), a = await auditor();
 const pb = `META\nkey;value\nbudget;${budget}\nvote_type;approval\nPROJECTS\nproject_id;cost;selected\na;1;1\nb;3000;0\n`
@@ -244,7 +245,7 @@ const others = [a.prices(pb, prices.replace('1,a,1', '1,a,2'), asked), a.prices(
                 a.both(pb, prices, group, asked).violation, a.explain(pb, group), a.page(pb, group)];
 console.log(JSON.stringify([yes.map(({ answer }) => answer), ...[yes, others].map(all => all.map(each => each.saysOfGroups))]));
 """)
-    ran = subprocess.run(["node", "groups.mjs", json.dumps([budget, exhaustive])], cwd=installed, stdout=subprocess.PIPE,
+    ran = subprocess.run(["node", "groups.mjs", json.dumps([budget, exhaustive])], cwd=either, stdout=subprocess.PIPE,
                          check=True)  # fmt: skip
     assert json.loads(ran.stdout) == [["yes"] * 4, [wanted] * 4, [None] * 6]
 
@@ -274,9 +275,9 @@ def test_both_has_two_verdicts(told):
     }  # fmt: skip
 
 
-def test_notes_on_columns_that_are_not_used(installed):
+def test_notes_on_columns_that_are_not_used(either):
     """As the program notes them, which doesn't with `both`; the files are counted as always."""
-    (installed / "columns.mjs").write_text(r"""
+    (either / "columns.mjs").write_text(r"""
 import { readFileSync } from 'node:fs';
 import { auditor } from 'pbaudit';
 const file = name => readFileSync(`${process.argv[2]}/${name}`).toString(), a = await auditor();
@@ -285,7 +286,7 @@ const answers = [a.read(pb), a.prices(pb, file('sample.prices.csv')), a.violatio
 const both = a.both(pb, file('sample.prices.csv'), file('sample.wrong.violation.csv'));
 console.log(JSON.stringify([...answers, both.prices, both.violation].map(({ notes }) => notes)));
 """)
-    ran = subprocess.run(["node", "columns.mjs", EXAMPLES], cwd=installed, stdout=subprocess.PIPE, check=True)
+    ran = subprocess.run(["node", "columns.mjs", EXAMPLES], cwd=either, stdout=subprocess.PIPE, check=True)
     notes = [f"note: column {name} of VOTES is not used" for name in ("weight", "points")]
     assert json.loads(ran.stdout) == [notes, notes, notes, [], []]
 
@@ -388,7 +389,7 @@ console.log(JSON.stringify(told));
 MODES = {"": {}, "--stable": {"stable": True}, "--no-exhaustive --cover": {"exhaustive": False, "cover": True}}
 
 
-def test_a_folder_is_the_programs(program, installed, room):
+def test_a_folder_is_the_programs(program, either, room):
     """The examples, an election that is refused and one without an outcome, and names that are hard to keep as they are."""
     for name in os.listdir(EXAMPLES):
         if name.startswith(("district.", "hall.", "sample.", "school.")):
@@ -401,8 +402,8 @@ def test_a_folder_is_the_programs(program, installed, room):
     (room / "refused.prices.csv").write_bytes(prices)
     (room / "without.pb").write_bytes(sample.replace(b";selected", b";funded"))
     (room / "without.prices.csv").write_bytes(prices)
-    (installed / "folder.mjs").write_text(OF_A_FOLDER)
-    ran = subprocess.run(["node", "folder.mjs", room, json.dumps([*MODES.values()])], cwd=installed, stdout=subprocess.PIPE, check=True)
+    (either / "folder.mjs").write_text(OF_A_FOLDER)
+    ran = subprocess.run(["node", "folder.mjs", room, json.dumps([*MODES.values()])], cwd=either, stdout=subprocess.PIPE, check=True)
     wanted = [ends(program, ["folder", ".", *words.split()], room)[:2] for words in MODES]
     assert json.loads(ran.stdout) == [[status, text.decode()] for status, text in wanted] * 3
     assert len({text for _, text in wanted}) == len(MODES)
@@ -495,7 +496,7 @@ def test_out_of_memory_is_an_error(page, command, tmp_path):
     assert ran == (4, b"", b"fault memory\n")
     (tmp_path / "caller.mjs").write_text("""
 import { readFileSync } from 'node:fs';
-import { auditor, OutOfMemory } from './package/index.js';
+import { auditor, OutOfMemory } from './package/index_node.js';
 const a = await auditor();
 try {
   a.read(readFileSync('large.pb'));
@@ -506,7 +507,7 @@ try {
     assert told.stdout == b"true 3\n"
     (tmp_path / "away.cjs").write_text("""
 const { readFileSync } = require('node:fs');
-const { OutOfMemory } = require('./package/cjs/index.js');
+const { OutOfMemory } = require('./package/cjs/index_node.js');
 require('./package/cjs/worker_node.js').workerAuditor().then(async w => {
   const error = await w.read(readFileSync('large.pb')).catch(error => error);
   console.log(error instanceof OutOfMemory, (await w.read(readFileSync(`${process.argv[2]}/sample.pb`))).voters);
@@ -516,7 +517,7 @@ require('./package/cjs/worker_node.js').workerAuditor().then(async w => {
 
 
 def test_package_has_the_same_bytes_elsewhere(packed, page, tmp_path):
-    """Also where the command's module is that of a package."""
+    """Also where the command's module and native code are those of a package."""
     for name in ("web", "packaging", "CHANGELOG.md", "LICENSE", "python/pbaudit", "crates/pb_words/src"):
         (tmp_path / "copy" / name).parent.mkdir(parents=True, exist_ok=True)
         if (TOP / name).is_dir():
@@ -529,6 +530,40 @@ def test_package_has_the_same_bytes_elsewhere(packed, page, tmp_path):
     assert (tmp_path / "made" / packed.name).read_bytes() == packed.read_bytes()
 
 
+def put_package(path, **files):
+    with tarfile.open(path, "w:gz") as package:
+        for name, data in files.items():
+            entry = tarfile.TarInfo(f"package/{name}")
+            entry.size = len(data)
+            package.addfile(entry, io.BytesIO(data))
+    return path
+
+
+def test_of_a_package_the_command_and_native_code_are_taken(page, tmp_path):
+    """By their names: others, which could lie anywhere, aren't."""
+    native = {"native/pbaudit-linux-x64.node": b"one", "native/pbaudit-darwin-arm64.node": b"other"}
+    others = {"native/../../../out.node": b"", "native/pbaudit-../x.node": b"", "native/x.node": b"", "native/pbaudit-linux-x64.node.js": b""}
+    given = put_package(tmp_path / "given.tgz", **{"pbaudit.wasm": b"command"}, **native, **others)
+    (tmp_path / "room/made").mkdir(parents=True)
+    subprocess.run([TOP / "packaging/javascript", page, given, tmp_path / "room/made"], stdout=subprocess.DEVNULL, check=True)
+    with tarfile.open(next((tmp_path / "room/made").iterdir())) as package:
+        names = {entry.name.removeprefix("package/") for entry in package}
+        assert {name: package.extractfile(f"package/{name}").read() for name in ("pbaudit.wasm", *native)} == {"pbaudit.wasm": b"command", **native}
+    assert {name for name in names if "native" in name} == {*native}
+    assert [*tmp_path.rglob("out.node"), *tmp_path.rglob("x.node")] == []
+
+
+@pytest.mark.parametrize("files, addons, why", [
+    ({"package.json": b"{}"}, [], "the package for COMMAND has no pbaudit.wasm"),
+    ({"pbaudit.wasm": b""}, ["linux-x64.node"], "linux-x64.node is no name of an addon: it is pbaudit-PLATFORM-ARCH.node"),
+])  # fmt: skip
+def test_no_package_is_made_without_its_command_or_with_another_addon(page, tmp_path, files, addons, why):
+    given = put_package(tmp_path / "given.tgz", **files)
+    (tmp_path / "made").mkdir()
+    done = subprocess.run([TOP / "packaging/javascript", page, given, tmp_path / "made", *addons], capture_output=True, text=True)
+    assert (done.returncode, done.stderr) == (1, f"javascript: {why}\n") and [*(tmp_path / "made").iterdir()] == []
+
+
 def test_package_is_named_as_what_is_released_or_isnt(packed):
     state = subprocess.run([TOP / "packaging/version", "--state"], stdout=subprocess.PIPE, text=True, check=True).stdout.strip()
     with tarfile.open(packed) as package:
@@ -537,10 +572,10 @@ def test_package_is_named_as_what_is_released_or_isnt(packed):
 
 
 def files_of(packed):
-    """The texts of the package: all but the module of the command."""
+    """The texts of the package: all but the module of the command and native code."""
     with tarfile.open(packed) as package:
         files = {entry.name.removeprefix("package/"): package.extractfile(entry).read() for entry in package}
-    return {name: data.decode() for name, data in files.items() if name != "pbaudit.wasm"}
+    return {name: data.decode() for name, data in files.items() if not name.endswith((".wasm", ".node"))}
 
 
 def test_package_needs_nothing(packed):
@@ -550,12 +585,19 @@ def test_package_needs_nothing(packed):
         assert {entry.uname + entry.gname for entry in package} == {""}
     assert not {"dependencies", "scripts", "peerDependencies"} & set(about)
     scripts = {name: text for name, text in files.items() if name.endswith(".js") and "generated" not in name}
-    own = r"\./(?:index|generated|generated_worker)\.js"
-    assert len(scripts) == 7
+    own = r"\./(?:index|index_node|generated|generated_worker)\.js"
+    assert len(scripts) == 9
     assert not re.findall(rf"""(?:from |import\(?|require\()["'](?!node:|{own})""", "".join(scripts.values()))
     with_node = {name for name, text in scripts.items() if "node:" in text}
-    assert with_node == {"command.js", "worker_node.js", "cjs/worker_node.js"}, "what a bundler takes has nothing of Node"
+    wanted = {"command.js", *(f"{folder}{name}_node.js" for folder in ("", "cjs/") for name in ("index", "worker"))}
+    assert with_node == wanted, "what a bundler takes for browsers has nothing of Node"
     assert not [name for name, text in files.items() if "generated_worker" in name and "node:" in text]
+
+
+def test_package_has_native_code(packed, addons):
+    with tarfile.open(packed) as package:
+        files = {entry.name.removeprefix("package/native/"): package.extractfile(entry).read() for entry in package if "/native/" in entry.name}
+    assert files == {addon.name: addon.read_bytes() for addon in addons}
 
 
 def places_in(about):

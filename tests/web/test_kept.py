@@ -66,7 +66,7 @@ def test_it_is_given_up_after_out_of_memory(starving):
     assert {name: line.get("error") for name, line in starving.items() if not line["isKept"]} == names
 
 
-def test_package_makes_one(installed):
-    (installed / "counted.mjs").write_text(COUNTED)
-    ran = subprocess.run(["node", "counted.mjs", EXAMPLES], cwd=installed, stdout=subprocess.PIPE, check=True)
+def test_package_makes_one(by_module):
+    (by_module / "counted.mjs").write_text(COUNTED)
+    ran = subprocess.run(["node", "counted.mjs", EXAMPLES], cwd=by_module, stdout=subprocess.PIPE, check=True)
     assert ran.stdout == b"1\n"

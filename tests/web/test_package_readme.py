@@ -33,14 +33,14 @@ def says(installed, name, text, *words):
     # of the limit, which is what the school costs; so it could be added.
     ("sample", "sample.prices", "yes undefined yes undefined\n"), ("school", "school.prices", "no 90 no Exhaustive\n"),
 ])  # fmt: skip
-def test_in_node(installed, election, certificate, wanted):
+def test_in_node(either, election, certificate, wanted):
     example = shown("import { readFileSync } from 'node:fs';")
-    assert says(installed, "audit.mjs", example, EXAMPLES / f"{election}.pb", EXAMPLES / f"{certificate}.csv") == wanted
+    assert says(either, "audit.mjs", example, EXAMPLES / f"{election}.pb", EXAMPLES / f"{certificate}.csv") == wanted
 
 
 @pytest.mark.parametrize("name, wanted", [("sample.pb", "3 voters\n"), ("sample.prices.csv", None)])
-def test_required_in_node(installed, name, wanted):
-    told = says(installed, "audit.cjs", shown("const { readFileSync }"), EXAMPLES / name)
+def test_required_in_node(either, name, wanted):
+    told = says(either, "audit.cjs", shown("const { readFileSync }"), EXAMPLES / name)
     assert told == wanted if wanted else "META" in told
 
 

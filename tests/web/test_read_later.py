@@ -32,8 +32,8 @@ NO_FILE = {"null": "null", "undefined": "undefined", "1": "1", "{}": "an Object"
 
 
 @pytest.fixture(scope="module")
-def evaluate(installed):
-    with handing.evaluating(installed) as by:
+def evaluate(either):
+    with handing.evaluating(either) as by:
         yield by
 
 
@@ -173,10 +173,10 @@ console.log(JSON.stringify([await ranBeside(await asyncAuditor()), await ranBesi
 """
 
 
-def test_a_worker_lets_others_run(installed):
+def test_a_worker_lets_others_run(either):
     """Here an audit stands in the way of what else would run, and in a worker it doesn't."""
-    (installed / "pending.mjs").write_text(PENDING)
-    ran = subprocess.run(["node", "pending.mjs", EXAMPLES], cwd=installed, stdout=subprocess.PIPE, check=True, timeout=300)
+    (either / "pending.mjs").write_text(PENDING)
+    ran = subprocess.run(["node", "pending.mjs", EXAMPLES], cwd=either, stdout=subprocess.PIPE, check=True, timeout=300)
     here, away = json.loads(ran.stdout)
     assert here["voters"] == away["voters"] == 600003
     assert away["others"] > 10 * max(1, here["others"]), (here, away)
@@ -208,10 +208,10 @@ console.log(JSON.stringify(told));
 """
 
 
-def test_whoever_runs_the_module_has_no_memory_for_it(installed):
+def test_whoever_runs_the_module_has_no_memory_for_it(by_module):
     """As where a process has taken all that it may. Later there may be some again."""
-    (installed / "full.mjs").write_text(FULL)
-    ran = subprocess.run(["node", "full.mjs", EXAMPLES], cwd=installed, stdout=subprocess.PIPE, check=True, timeout=60)
+    (by_module / "full.mjs").write_text(FULL)
+    ran = subprocess.run(["node", "full.mjs", EXAMPLES], cwd=by_module, stdout=subprocess.PIPE, check=True, timeout=60)
     assert json.loads(ran.stdout) == [True] * 4 + [0] * 6
 
 
@@ -219,20 +219,20 @@ def test_whoever_runs_the_module_has_no_memory_for_it(installed):
     ("console.log((await w.read(pb)).answer)", b"read\n"), ("w.read(pb).then(({ answer }) => console.log(answer))", b"read\n"),
     ("", b""),
 ])  # fmt: skip
-def test_a_program_ends_once_all_is_answered(installed, ends, wanted):
+def test_a_program_ends_once_all_is_answered(either, ends, wanted):
     """Also without closing the worker."""
-    (installed / "ending.mjs").write_text(f"""
+    (either / "ending.mjs").write_text(f"""
 import {{ readFileSync }} from 'node:fs';
 import {{ workerAuditor }} from 'pbaudit/worker';
 const pb = readFileSync(`${{process.argv[2]}}/sample.pb`), w = await workerAuditor();
 {ends};
 """)
-    ran = subprocess.run(["node", "ending.mjs", EXAMPLES], cwd=installed, capture_output=True, timeout=60, check=False)
+    ran = subprocess.run(["node", "ending.mjs", EXAMPLES], cwd=either, capture_output=True, timeout=60, check=False)
     assert (ran.returncode, ran.stdout, ran.stderr) == (0, wanted, b"")
 
 
-def test_a_worker_that_is_closed(installed):
-    (installed / "closed.cjs").write_text("""
+def test_a_worker_that_is_closed(either):
+    (either / "closed.cjs").write_text("""
 const { readFileSync } = require('node:fs');
 const { workerAuditor } = require('pbaudit/worker');
 const pb = readFileSync(`${process.argv[2]}/sample.pb`);
@@ -244,6 +244,6 @@ workerAuditor().then(async w => {
   for (const call of [open, w.read(pb)]) console.log(await call.then(({ answer }) => answer, ({ message }) => message));
 });
 """)
-    ran = subprocess.run(["node", "closed.cjs", EXAMPLES], cwd=installed, stdout=subprocess.PIPE, check=True, timeout=60)
+    ran = subprocess.run(["node", "closed.cjs", EXAMPLES], cwd=either, stdout=subprocess.PIPE, check=True, timeout=60)
     first, second = ran.stdout.decode().splitlines()
     assert first in ("the auditor was closed", "read") and second == "the auditor is closed"

@@ -1,14 +1,14 @@
 //! The table of the conditions on prices.
 ghost use Rattle.std.specs.Prelude.{◌≡◌, ◌≤◌, ◌^◌, ◌++◌, IfOk, IfSome, OnOk, map, string_bytes};
 ghost use Rattle.pb_election.specs.Instance.{IsProject};
+ghost use Rattle.pb_price.specs.Condition.{FindingNamesProjects, FindingsNameProjects, FoundNamesProjects, found};
 ghost use Rattle.pb_explain.specs.PriceTable as spec;
-ghost use Rattle.pb_explain.specs.PriceTable.{NameProjects, ShowsProject};
 ghost use Rattle.pb_explain.specs.Rows.{opening_if};
 
 use crate::amounts::{Amount, Balance};
-use crate::rows::{HowMany, Opening, OpeningIf, push_line};
+use crate::rows::{HowMany, OpeningIf, push_line};
 use pb_election::Election;
-use pb_price::{Finding, Findings, Mode};
+use pb_price::{Condition, Finding, Findings, Mode};
 use std::alloc::{AllocError, Global};
 
 /// Adds a line for each condition on prices, in their order: its name, whether it holds, and the figures that it
@@ -24,76 +24,93 @@ pub fn push_price_table(
     mode: Mode,
 ) -> Result<(), AllocError>
     requires unit { 10 ^ 6 ≤ (findings.now).grains_per_unit }
-    requires projects { NameProjects election.now findings.now }
+    requires projects { FindingsNameProjects election.now findings.now }
     ensures { OnOk result (map string_bytes lines.new.items ≡ map string_bytes lines.old.items ++ spec.price_table mode election.now findings.now) }
 {
-    push_outcome_lines(alloc, lines, election, findings, mode)?;
-    push_payment_lines(alloc, lines, election, findings)?;
-    push_supporter_lines(alloc, lines, election, findings, mode.stable)
+    for condition in Condition::all() {
+        let line = condition_line(alloc, election, findings, mode, *condition)?;
+        push_line(lines, line)?;
+    }
+    Ok(())
 }
 
-// Adds the lines on the outcome and on the budgets.
-fn push_outcome_lines(
+// The line on a condition.
+fn condition_line(
     alloc: Global,
-    lines: &mut Vec<String>,
     election: &Election,
     findings: &Findings,
     mode: Mode,
-) -> Result<(), AllocError>
+    condition: Condition,
+) -> Result<String, AllocError>
     requires unit { 10 ^ 6 ≤ (findings.now).grains_per_unit }
-    requires exhaustive { ShowsProject election.now (findings.now).exhaustive }
-    ensures { OnOk result (map string_bytes lines.new.items ≡ map string_bytes lines.old.items ++ spec.outcome_lines mode election.now findings.now) }
+    requires projects { FoundNamesProjects election.now (found findings.now condition) }
+    ensures { IfOk result (λ line. string_bytes line ≡ spec.line mode election.now findings.now condition) }
 {
-    push_line(lines, feasible_line(alloc, findings)?)?;
-    push_line(
-        lines,
-        exhaustive_line(alloc, election, findings, mode.exhaustive)?,
-    )?;
-    push_line(lines, cover_line(alloc, findings, mode.cover)?)
+    let holds = findings.found(condition).holds();
+    let opening = OpeningIf(
+        condition.is_asked(mode),
+        column(condition),
+        how_to_ask(condition),
+        holds,
+    );
+    match condition {
+        Condition::Feasible => feasible_line(alloc, findings, &opening),
+        Condition::Exhaustive => exhaustive_line(alloc, election, findings, &opening),
+        Condition::Cover => cover_line(alloc, findings, &opening),
+        Condition::C1 => c1_line(alloc, election, findings, &opening),
+        Condition::C2 => c2_line(alloc, findings, &opening),
+        Condition::C3 => c3_line(alloc, election, findings, &opening),
+        Condition::C4 => c4_line(alloc, election, findings, &opening),
+        Condition::C5 => {
+            let (unit, found) = (findings.grains_per_unit, &findings.c5);
+            supporter_line(alloc, election, unit, &opening, "leftovers", found)
+        }
+        Condition::S5 => {
+            let (unit, found) = (findings.grains_per_unit, &findings.s5);
+            supporter_line(alloc, election, unit, &opening, "offers", found)
+        }
+    }
 }
 
-// Adds the lines on payments.
-fn push_payment_lines(
+// The name of a condition, as a column.
+fn column(condition: Condition) -> &'static str
+    ensures { result.now ≡ spec.column condition }
+{
+    match condition {
+        Condition::Feasible => "Feasible    ",
+        Condition::Exhaustive => "Exhaustive  ",
+        Condition::Cover => "Cover       ",
+        Condition::C1 => "C1          ",
+        Condition::C2 => "C2          ",
+        Condition::C3 => "C3          ",
+        Condition::C4 => "C4          ",
+        Condition::C5 => "C5          ",
+        Condition::S5 => "S5          ",
+    }
+}
+
+// How a condition is asked for that some mode leaves out.
+fn how_to_ask(condition: Condition) -> &'static str
+    ensures { result.now ≡ spec.how_to_ask condition }
+{
+    match condition {
+        Condition::Exhaustive => "without --no-exhaustive",
+        Condition::Cover => "with --cover",
+        Condition::C5 => "without --stable",
+        Condition::S5 => "with --stable",
+        _ => "",
+    }
+}
+
+fn feasible_line(
     alloc: Global,
-    lines: &mut Vec<String>,
-    election: &Election,
     findings: &Findings,
-) -> Result<(), AllocError>
+    opening: &OpeningIf<'_>,
+) -> Result<String, AllocError>
     requires unit { 10 ^ 6 ≤ (findings.now).grains_per_unit }
-    requires c1 { IfSome (findings.now).c1.first (λ q. IsProject election.now q.1) }
-    requires c3 { ShowsProject election.now (findings.now).c3 }
-    requires c4 { ShowsProject election.now (findings.now).c4 }
-    ensures { OnOk result (map string_bytes lines.new.items ≡ map string_bytes lines.old.items ++ spec.payment_lines election.now findings.now) }
-{
-    push_line(lines, c1_line(alloc, election, findings)?)?;
-    push_line(lines, c2_line(alloc, findings)?)?;
-    push_line(lines, c3_line(alloc, election, findings)?)?;
-    push_line(lines, c4_line(alloc, election, findings)?)
-}
-
-// Adds the lines on what the supporters of unfunded projects have.
-fn push_supporter_lines(
-    alloc: Global,
-    lines: &mut Vec<String>,
-    election: &Election,
-    findings: &Findings,
-    stable: bool,
-) -> Result<(), AllocError>
-    requires unit { 10 ^ 6 ≤ (findings.now).grains_per_unit }
-    requires c5 { ShowsProject election.now (findings.now).c5 }
-    requires s5 { ShowsProject election.now (findings.now).s5 }
-    ensures { OnOk result (map string_bytes lines.new.items ≡ map string_bytes lines.old.items ++ spec.supporter_lines stable election.now findings.now) }
-{
-    push_line(lines, c5_line(alloc, election, findings, !stable)?)?;
-    push_line(lines, s5_line(alloc, election, findings, stable)?)
-}
-
-fn feasible_line(alloc: Global, findings: &Findings) -> Result<String, AllocError>
-    requires unit { 10 ^ 6 ≤ (findings.now).grains_per_unit }
-    ensures { IfOk result (λ line. string_bytes line ≡ spec.feasible_line findings.now) }
+    ensures { IfOk result (λ line. string_bytes line ≡ opening_if (opening.now).0 (opening.now).1.now (opening.now).2.now (opening.now).3 ++ spec.outcome_told findings.now) }
 {
     let unit = findings.grains_per_unit;
-    let opening = Opening("Feasible    ", findings.total <= findings.limit);
     let total = Amount(unit, findings.total);
     let limit = Amount(unit, findings.limit);
     format!(in alloc; "{opening}the funded projects cost {total}; the limit is {limit}")
@@ -103,23 +120,21 @@ fn exhaustive_line(
     alloc: Global,
     election: &Election,
     findings: &Findings,
-    asked: bool,
+    opening: &OpeningIf<'_>,
 ) -> Result<String, AllocError>
     requires unit { 10 ^ 6 ≤ (findings.now).grains_per_unit }
-    requires project { ShowsProject election.now (findings.now).exhaustive }
-    ensures { IfOk result (λ line. string_bytes line ≡ spec.exhaustive_line asked election.now findings.now) }
+    requires project { FindingNamesProjects election.now (findings.now).exhaustive }
+    ensures { IfOk result (λ line. string_bytes line ≡ opening_if (opening.now).0 (opening.now).1.now (opening.now).2.now (opening.now).3 ++ spec.room_told election.now findings.now) }
 {
     let unit = findings.grains_per_unit;
     let found = &findings.exhaustive;
-    let holds = found.count == 0;
-    let opening = OpeningIf(asked, "Exhaustive  ", "without --no-exhaustive", holds);
     let Some(here) = found.shown else {
         return format!(in alloc; "{opening}every project is funded");
     };
     let rest = Balance(unit, here.amount);
     let project = election.id(here.at);
     let cost = Amount(unit, here.bound);
-    if holds {
+    if found.count == 0 {
         return format!(in alloc;
             "{opening}{rest} of the limit remains; the cheapest unfunded project, {project}, costs {cost}"
         );
@@ -130,53 +145,57 @@ fn exhaustive_line(
     )
 }
 
-fn cover_line(alloc: Global, findings: &Findings, asked: bool) -> Result<String, AllocError>
+fn cover_line(
+    alloc: Global,
+    findings: &Findings,
+    opening: &OpeningIf<'_>,
+) -> Result<String, AllocError>
     requires unit { 10 ^ 6 ≤ (findings.now).grains_per_unit }
-    ensures { IfOk result (λ line. string_bytes line ≡ spec.cover_line asked findings.now) }
+    ensures { IfOk result (λ line. string_bytes line ≡ opening_if (opening.now).0 (opening.now).1.now (opening.now).2.now (opening.now).3 ++ spec.budgets_told findings.now) }
 {
     let unit = findings.grains_per_unit;
-    let opening = OpeningIf(
-        asked,
-        "Cover       ",
-        "with --cover",
-        findings.limit < findings.budgets,
-    );
     let budgets = Amount(unit, findings.budgets);
     let limit = Amount(unit, findings.limit);
     format!(in alloc; "{opening}all voter budgets come to {budgets} together; the limit is {limit}")
 }
 
-fn c1_line(alloc: Global, election: &Election, findings: &Findings) -> Result<String, AllocError>
+fn c1_line(
+    alloc: Global,
+    election: &Election,
+    findings: &Findings,
+    opening: &OpeningIf<'_>,
+) -> Result<String, AllocError>
     requires project { IfSome (findings.now).c1.first (λ q. IsProject election.now q.1) }
-    ensures { IfOk result (λ line. string_bytes line ≡ spec.c1_line election.now findings.now) }
+    ensures { IfOk result (λ line. string_bytes line ≡ opening_if (opening.now).0 (opening.now).1.now (opening.now).2.now (opening.now).3 ++ spec.payments_told election.now (findings.now).c1.count (findings.now).c1.first) }
 {
-    let count = findings.c1.count;
-    let opening = Opening("C1          ", count == 0);
-    let Some((i, j)) = findings.c1.first else {
+    let found = findings.c1;
+    let Some((i, j)) = found.first else {
         return format!(in alloc; "{opening}no voter pays for a project that isn't on its ballot");
     };
     let project = election.id(j);
-    let others = HowMany("such payments", count);
+    let others = HowMany("such payments", found.count);
     format!(in alloc;
         "{opening}voter {i} pays for project {project}, which isn't on its ballot{others}"
     )
 }
 
-fn c2_line(alloc: Global, findings: &Findings) -> Result<String, AllocError>
+fn c2_line(
+    alloc: Global,
+    findings: &Findings,
+    opening: &OpeningIf<'_>,
+) -> Result<String, AllocError>
     requires unit { 10 ^ 6 ≤ (findings.now).grains_per_unit }
-    ensures { IfOk result (λ line. string_bytes line ≡ spec.c2_line findings.now) }
+    ensures { IfOk result (λ line. string_bytes line ≡ opening_if (opening.now).0 (opening.now).1.now (opening.now).2.now (opening.now).3 ++ spec.spent_told findings.now) }
 {
     let unit = findings.grains_per_unit;
     let found = &findings.c2;
-    let holds = found.count == 0;
-    let opening = Opening("C2          ", holds);
     let Some(here) = found.shown else {
         return format!(in alloc; "{opening}there are no voters");
     };
     let voter = here.at;
     let spent = Balance(unit, here.amount);
     let budget = Amount(unit, here.bound);
-    if holds {
+    if found.count == 0 {
         return format!(in alloc;
             "{opening}voter {voter} spends most, {spent} of its budget of {budget}"
         );
@@ -185,14 +204,18 @@ fn c2_line(alloc: Global, findings: &Findings) -> Result<String, AllocError>
     format!(in alloc; "{opening}voter {voter} spends {spent} and has a budget of {budget}{others}")
 }
 
-fn c3_line(alloc: Global, election: &Election, findings: &Findings) -> Result<String, AllocError>
+fn c3_line(
+    alloc: Global,
+    election: &Election,
+    findings: &Findings,
+    opening: &OpeningIf<'_>,
+) -> Result<String, AllocError>
     requires unit { 10 ^ 6 ≤ (findings.now).grains_per_unit }
-    requires project { ShowsProject election.now (findings.now).c3 }
-    ensures { IfOk result (λ line. string_bytes line ≡ spec.c3_line election.now findings.now) }
+    requires project { FindingNamesProjects election.now (findings.now).c3 }
+    ensures { IfOk result (λ line. string_bytes line ≡ opening_if (opening.now).0 (opening.now).1.now (opening.now).2.now (opening.now).3 ++ spec.exactly_told election.now findings.now) }
 {
     let unit = findings.grains_per_unit;
     let found = &findings.c3;
-    let opening = Opening("C3          ", found.count == 0);
     let Some(here) = found.shown else {
         return format!(in alloc; "{opening}each funded project is paid for exactly");
     };
@@ -203,14 +226,18 @@ fn c3_line(alloc: Global, election: &Election, findings: &Findings) -> Result<St
     format!(in alloc; "{opening}project {project} costs {cost}, and {paid} is paid for it{others}")
 }
 
-fn c4_line(alloc: Global, election: &Election, findings: &Findings) -> Result<String, AllocError>
+fn c4_line(
+    alloc: Global,
+    election: &Election,
+    findings: &Findings,
+    opening: &OpeningIf<'_>,
+) -> Result<String, AllocError>
     requires unit { 10 ^ 6 ≤ (findings.now).grains_per_unit }
-    requires project { ShowsProject election.now (findings.now).c4 }
-    ensures { IfOk result (λ line. string_bytes line ≡ spec.c4_line election.now findings.now) }
+    requires project { FindingNamesProjects election.now (findings.now).c4 }
+    ensures { IfOk result (λ line. string_bytes line ≡ opening_if (opening.now).0 (opening.now).1.now (opening.now).2.now (opening.now).3 ++ spec.in_vain_told election.now findings.now) }
 {
     let unit = findings.grains_per_unit;
     let found = &findings.c4;
-    let opening = Opening("C4          ", found.count == 0);
     let Some(here) = found.shown else {
         return format!(in alloc; "{opening}nothing is paid for an unfunded project");
     };
@@ -223,61 +250,17 @@ fn c4_line(alloc: Global, election: &Election, findings: &Findings) -> Result<St
     format!(in alloc; "{opening}{paid} is paid for project {project}, which isn't funded{others}")
 }
 
-fn c5_line(
-    alloc: Global,
-    election: &Election,
-    findings: &Findings,
-    asked: bool,
-) -> Result<String, AllocError>
-    requires unit { 10 ^ 6 ≤ (findings.now).grains_per_unit }
-    requires project { ShowsProject election.now (findings.now).c5 }
-    ensures { IfOk result (λ line. string_bytes line ≡ spec.c5_line asked election.now findings.now) }
-{
-    let found = &findings.c5;
-    let opening = OpeningIf(asked, "C5          ", "without --stable", found.count == 0);
-    supporter_line(
-        alloc,
-        election,
-        findings.grains_per_unit,
-        &opening,
-        "leftovers",
-        found,
-    )
-}
-
-fn s5_line(
-    alloc: Global,
-    election: &Election,
-    findings: &Findings,
-    asked: bool,
-) -> Result<String, AllocError>
-    requires unit { 10 ^ 6 ≤ (findings.now).grains_per_unit }
-    requires project { ShowsProject election.now (findings.now).s5 }
-    ensures { IfOk result (λ line. string_bytes line ≡ spec.s5_line asked election.now findings.now) }
-{
-    let found = &findings.s5;
-    let opening = OpeningIf(asked, "S5          ", "with --stable", found.count == 0);
-    supporter_line(
-        alloc,
-        election,
-        findings.grains_per_unit,
-        &opening,
-        "offers",
-        found,
-    )
-}
-
 // What an unfunded project costs, and what its supporters have left or can offer; `sums_of` says which.
 fn supporter_line(
     alloc: Global,
     election: &Election,
     unit: u64,
-    opening: &OpeningIf,
+    opening: &OpeningIf<'_>,
     sums_of: &str,
     found: &Finding,
 ) -> Result<String, AllocError>
     requires unit { 10 ^ 6 ≤ unit }
-    requires project { ShowsProject election.now found.now }
+    requires project { FindingNamesProjects election.now found.now }
     ensures { IfOk result (λ line. string_bytes line ≡ opening_if (opening.now).0 (opening.now).1.now (opening.now).2.now (opening.now).3 ++ spec.supporters_told election.now unit sums_of.now found.now) }
 {
     let Some(here) = found.shown else {

@@ -12,19 +12,19 @@ use Rattle.pb_cohesion.specs.Shown as groups
 use Rattle.pb_cohesion.specs.declared.GroupFigures.{GroupFigures}
 use Rattle.pb_cohesion.specs.declared.GroupsVerdict.{GroupsVerdict}
 use Rattle.pb_cohesion.specs.declared.GroupsVerdict.TheVariants as groups_verdict
+use Rattle.pb_price.specs.Condition as price
+use Rattle.pb_price.specs.Condition.{finding_in}
 use Rattle.pb_price.specs.First.{verdict_of}
 use Rattle.pb_price.specs.Told.{first_told}
 use Rattle.pb_price.specs.declared.Comparison.{Comparison}
 use Rattle.pb_price.specs.declared.Finding.{Finding}
-use Rattle.pb_price.specs.declared.Findings.{Findings}
+use Rattle.pb_price.specs.declared.condition.Condition.{Condition}
 use Rattle.pb_cohesion.specs.declared.Mode.{Mode}
 use Rattle.pb_price.specs.declared.ProjectMargins.{ProjectMargins}
 use Rattle.pb_price.specs.declared.Verdict.{Verdict}
 use Rattle.pb_price.specs.declared.Verdict.TheVariants as verdict
 use Rattle.pb_figures.specs.Amounts.{nothing, of, signed}
 use Rattle.pb_figures.specs.declared.amounts.Balance.{Balance}
-use Rattle.pb_figures.specs.declared.figure.Compared.{Compared}
-use Rattle.pb_figures.specs.declared.figure.Compared.TheVariants as compared
 use Rattle.pb_figures.specs.declared.figure.Figure.{Figure}
 use Rattle.pb_figures.specs.declared.figure.Figure.TheVariants as figure
 use Rattle.pb_figures.specs.declared.refutations.RefutationFigures.{RefutationFigures}
@@ -97,17 +97,13 @@ amount_in amount (Some a) = amount a
 abbrev pub of_project : (ProjectMargins → Balance) → PriceFigures → ℕ → Balance
 of_project amount p j = amount_in amount (at p.margins.projects.items j)
 
--- the finding of a condition, and an amount of the two sums that it shows
-abbrev pub finding : Findings → Compared → Finding
-finding f compared.Exhaustive = f.exhaustive
-finding f compared.C2 = f.c2
-finding f compared.C3 = f.c3
-finding f compared.C4 = f.c4
-finding f compared.C5 = f.c5
-finding f compared.S5 = f.s5
+-- the two sums that a condition on voters or on projects shows
+abbrev pub shown_by : Option Finding → Option Comparison
+shown_by None = None
+shown_by (Some f) = f.shown
 
-abbrev pub shown : (Comparison → Balance) → PriceFigures → Compared → Balance
-shown amount p condition = amount_in amount (finding p.findings condition).shown
+abbrev pub shown : PriceFigures → Condition → Option Comparison
+shown p c = shown_by (finding_in (price.found p.findings c))
 
 -- the amounts of prices
 abbrev pub price_amount : PriceFigures → Figure → Balance
@@ -125,9 +121,9 @@ price_amount p (figure.Offer j) = of_project (λ m. signed m.offer) p j
 price_amount p (figure.PaidOff j) = of_project (λ m. of (abs_diff m.paid m.cost)) p j
 price_amount p (figure.LeftOff j) = of_project (λ m. of (distance m.left m.cost)) p j
 price_amount p (figure.OfferOff j) = of_project (λ m. of (distance m.offer m.cost)) p j
-price_amount p (figure.Bound c) = shown (λ s. of s.bound) p c
-price_amount p (figure.Amount c) = shown (λ s. signed s.amount) p c
-price_amount p (figure.AmountOff c) = shown (λ s. of (distance s.amount s.bound)) p c
+price_amount p (figure.Bound c) = amount_in (λ s. of s.bound) (shown p c)
+price_amount p (figure.Amount c) = amount_in (λ s. signed s.amount) (shown p c)
+price_amount p (figure.AmountOff c) = amount_in (λ s. of (distance s.amount s.bound)) (shown p c)
 price_amount p figure.Demand = nothing
 price_amount p figure.Share = nothing
 price_amount p figure.ShareOff = nothing

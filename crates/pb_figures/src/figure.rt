@@ -1,4 +1,5 @@
 //! The figures that a page shows, by name.
+use pb_price::Condition;
 
 /// An amount that a page shows. Projects are numbered from 1; one that the election has not shows 0.
 #[derive(Clone, Copy)]
@@ -31,12 +32,12 @@ pub enum Figure {
     LeftOff(u32),
     /// By how much what the supporters of this project can offer is over or under its cost, without a sign.
     OfferOff(u32),
-    /// The bound of this condition at the place that its finding shows.
-    Bound(Compared),
+    /// The bound of this condition at the place that its finding shows. Nothing where it shows none.
+    Bound(Condition),
     /// What this condition compares with the bound at that place.
-    Amount(Compared),
+    Amount(Condition),
     /// By how much that is over or under the bound, without a sign.
-    AmountOff(Compared),
+    AmountOff(Condition),
     /// What the demanded projects cost together.
     Demand,
     /// The group's share of the limit.
@@ -58,15 +59,4 @@ pub enum Figure {
     Need(u32),
     /// What the member of that group got that got most. Nothing where projects are counted.
     Most(u32),
-}
-
-/// The conditions whose findings show two sums.
-#[derive(Clone, Copy)]
-pub enum Compared {
-    Exhaustive,
-    C2,
-    C3,
-    C4,
-    C5,
-    S5,
 }

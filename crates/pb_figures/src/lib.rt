@@ -13,7 +13,7 @@ mod told;
 pub use amounts::{Balance, Style, push_amount, push_grouped};
 pub use decimals::decimals_of;
 pub use extremes::{Payment, Spender, extremes_of};
-pub use figure::{Compared, Figure};
+pub use figure::Figure;
 pub use ranking::{Size, closest_first, has, missing, places_by, short_first, wrongly_paid_first};
 pub use refutations::RefutationFigures;
 pub use short_groups::ShortFigures;

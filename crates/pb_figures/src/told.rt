@@ -1,18 +1,19 @@
 //! What a page tells of the files: the answer, and the amounts by name.
 ghost use Rattle.std.specs.Prelude.{◌≡◌, option_copied};
 ghost use Rattle.std.specs.Int.{abs_diff};
+ghost use Rattle.pb_price.specs.Condition.{finding_in, found, holds};
 ghost use Rattle.pb_figures.specs.Amounts.{of, signed};
 ghost use Rattle.pb_figures.specs.Told as spec;
 ghost use Rattle.pb_figures.specs.Told.{amount_in};
 
 use crate::amounts::{Balance, Style};
 use crate::extremes::Extremes;
-use crate::figure::{Compared, Figure};
+use crate::figure::Figure;
 use crate::refutations::{RefutationFigures, refutation_headline};
 use crate::short_groups::{ShortFigures, groups_headline};
 use pb_certificate::{Measure, Violation};
 use pb_cohesion::{ViolationFindings, ViolationVerdict};
-use pb_price::{Finding, Findings, Margins, Mode, ProjectMargins, Verdict};
+use pb_price::{Comparison, Condition, Finding, Findings, Margins, Mode, ProjectMargins, Verdict};
 use pb_words::Headline;
 
 /// What is told: the answer, and what was found.
@@ -224,42 +225,49 @@ impl PriceFigures {
         }
     }
 
-    /// What a condition comes to.
-    pub fn finding(&self, condition: Compared) -> &Finding
-        ensures { result.now ≡ spec.finding (self.now).findings condition }
+    /// Whether a condition holds.
+    pub fn holds(&self, condition: Condition) -> bool
+        ensures { result ≡ holds (found (self.now).findings condition) }
     {
-        match condition {
-            Compared::Exhaustive => &self.findings.exhaustive,
-            Compared::C2 => &self.findings.c2,
-            Compared::C3 => &self.findings.c3,
-            Compared::C4 => &self.findings.c4,
-            Compared::C5 => &self.findings.c5,
-            Compared::S5 => &self.findings.s5,
-        }
+        self.findings.found(condition).holds()
     }
 
-    fn bound(&self, condition: Compared) -> Balance
-        ensures { result ≡ spec.shown (λ s. of s.bound) self.now condition }
+    /// What a condition on voters or on projects comes to.
+    pub fn finding(&self, condition: Condition) -> Option<Finding>
+        ensures { result ≡ finding_in (found (self.now).findings condition) }
     {
-        match self.finding(condition).shown {
+        self.findings.found(condition).finding()
+    }
+
+    /// The two sums that a condition compares at the place that its finding shows.
+    pub fn shown(&self, condition: Condition) -> Option<Comparison>
+        ensures { result ≡ spec.shown self.now condition }
+    {
+        self.finding(condition)?.shown
+    }
+
+    fn bound(&self, condition: Condition) -> Balance
+        ensures { result ≡ amount_in (λ s. of s.bound) (spec.shown self.now condition) }
+    {
+        match self.shown(condition) {
             Some(shown) => Balance::of(shown.bound),
             None => Balance::NOTHING,
         }
     }
 
-    fn compared(&self, condition: Compared) -> Balance
-        ensures { result ≡ spec.shown (λ s. signed s.amount) self.now condition }
+    fn compared(&self, condition: Condition) -> Balance
+        ensures { result ≡ amount_in (λ s. signed s.amount) (spec.shown self.now condition) }
     {
-        match self.finding(condition).shown {
+        match self.shown(condition) {
             Some(shown) => Balance::signed(shown.amount),
             None => Balance::NOTHING,
         }
     }
 
-    fn compared_off(&self, condition: Compared) -> Balance
-        ensures { result ≡ spec.shown (λ s. of (spec.distance s.amount s.bound)) self.now condition }
+    fn compared_off(&self, condition: Condition) -> Balance
+        ensures { result ≡ amount_in (λ s. of (spec.distance s.amount s.bound)) (spec.shown self.now condition) }
     {
-        match self.finding(condition).shown {
+        match self.shown(condition) {
             Some(shown) => Balance::of(distance(shown.amount, shown.bound)),
             None => Balance::NOTHING,
         }

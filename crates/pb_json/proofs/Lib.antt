@@ -1,5 +1,4 @@
 pub mod ProjectMargins
 pub mod Named
 pub mod Plain
-pub mod Pushes
 pub mod Shown

@@ -1,6 +1,6 @@
 -- What this crate makes has no number with a fraction, and doesn't nest deep.
-use Rattle.std.proofs.Common.{◌≡◌, ◌+◌, ◌≤◌, ℕ, Bool, true, false, List, [], ◌∷◌, refl, arith}
-use Rattle.std.specs.Prelude.{codes, nat_le, nat_lt, not, Option, Some, None, map, option_map}
+use Rattle.std.proofs.Common.{◌≡◌, ◌+◌, ◌≤◌, ℕ, Bool, false, List, [], ◌∷◌, refl, arith}
+use Rattle.std.specs.Prelude.{codes, Option, Some, None, map, option_map}
 use Rattle.std.specs.List.{AllByRecursion, zip}
 use Rattle.serde_json.specs.Data.{Data, items_depth}
 use Rattle.serde_json.specs.Read.{max_depth}
@@ -22,13 +22,14 @@ use Rattle.pb_cohesion.specs.declared.RefutationVerdict.TheVariants as refutatio
 use Rattle.pb_cohesion.specs.declared.ViolationFindings.{ViolationFindings}
 use Rattle.pb_cohesion.specs.declared.ViolationVerdict.{ViolationVerdict}
 use Rattle.pb_cohesion.specs.declared.ViolationVerdict.TheVariants as violation_verdict
+use Rattle.pb_price.specs.Condition.{all_conditions, found, is_asked, name}
 use Rattle.pb_price.specs.Told.{price_failed}
 use Rattle.pb_price.specs.declared.Comparison.{Comparison}
 use Rattle.pb_input.specs.declared.InputRefusal.{InputRefusal}
-use Rattle.pb_price.specs.declared.Finding.{Finding}
+use Rattle.pb_price.specs.declared.condition.Found.{Found}
+use Rattle.pb_price.specs.declared.condition.Found.TheVariants.{Totals, Payments, Voters, Projects}
 use Rattle.pb_price.specs.declared.Findings.{Findings}
 use Rattle.pb_cohesion.specs.declared.Mode.{Mode}
-use Rattle.pb_price.specs.declared.PaymentFinding.{PaymentFinding}
 use Rattle.pb_price.specs.declared.ProjectMargins.{ProjectMargins}
 use Rattle.pb_price.specs.declared.Verdict.{Verdict}
 use Rattle.pb_price.specs.declared.nearest.NearestGroup.{NearestGroup}
@@ -57,6 +58,11 @@ items-plain k (d ∷ ds) each = grind (arith, items-plain k ds)
 
 pub list-plain : (k : ℕ) (ds : List Data) → AllByRecursion (IsPlain k) ds → IsPlain (k + 1) (list ds)
 list-plain k ds each = grind (arith, items-plain k ds)
+
+-- margins
+each-plain : {A : Type 0} (k : ℕ) (told : A → Data) (xs : List A) → ((x : A) → IsPlain k (told x))
+    → AllByRecursion (IsPlain k) (map told xs)
+each-plain k told xs each = all-map (IsPlain k) told xs (all-every (λ x. IsPlain k (told x)) xs each)
 
 pub or-null-plain : {A : Type 0} (k : ℕ) (told : A → Data) (o : Option A) → ((x : A) → IsPlain k (told x))
     → IsPlain k (or_null told o)
@@ -124,33 +130,26 @@ comparison-plain : (e : Instance) (at : At) (shown : Option Comparison)
 comparison-plain e at shown =
     or-null-plain 1 _ shown (λ m. sums-plain e (balance m.amount) m.bound (place_at at m.at) (leaf 0))
 
-totals-plain : (e : Instance) (name : Text) (asked holds : Bool) (sum bound : ℕ)
-    → IsPlain 2 (prices.totals_json e name asked holds sum bound)
-totals-plain e name asked holds sum bound =
-    grind (arith, sums-plain e (amount sum) bound nowhere (leaf 0))
+first-plain : (e : Instance) (f : Found) → IsPlain 1 (prices.first_culprit e f)
+first-plain e (Totals it_holds total limit) = leaf 1
+first-plain e (Payments f) = pair-or-null-plain e f.first
+first-plain e (Voters f) = place-or-null-plain e (option_map (place_at Voter) f.first)
+first-plain e (Projects f) = place-or-null-plain e (option_map (place_at Project) f.first)
 
-finding-plain : (e : Instance) (name : Text) (asked : Bool) (at : At) (f : Finding)
-    → IsPlain 2 (prices.finding_json e name asked at f)
-finding-plain e name asked at f =
-    grind (arith, place-or-null-plain e (option_map (place_at at) f.first), comparison-plain e at f.shown)
+shown-plain : (e : Instance) (f : Found) → IsPlain 1 (prices.shown_json e f)
+shown-plain e (Totals it_holds total limit) = sums-plain e (amount total) limit nowhere (leaf 0)
+shown-plain e (Payments f) = leaf 1
+shown-plain e (Voters f) = comparison-plain e Voter f.shown
+shown-plain e (Projects f) = comparison-plain e Project f.shown
 
-payments-plain : (e : Instance) (name : Text) (f : PaymentFinding) → IsPlain 2 (prices.payments_json e name f)
-payments-plain e name f = grind (arith, pair-or-null-plain e f.first)
+found-plain : (e : Instance) (name : Text) (asked : Bool) (f : Found) → IsPlain 2 (prices.found_json e name asked f)
+found-plain e name asked f = grind (arith, first-plain e f, shown-plain e f)
 
 conditions-plain : (m : Mode) (e : Instance) (f : Findings) → IsPlain 3 (prices.conditions_json m e f)
 conditions-plain m e f =
-    grind (
-      arith,
-      totals-plain e (codes "Feasible") true (nat_le f.total f.limit) f.total f.limit,
-      finding-plain e (codes "Exhaustive") m.exhaustive Project f.exhaustive,
-      totals-plain e (codes "Cover") m.cover (nat_lt f.limit f.budgets) f.budgets f.limit,
-      payments-plain e (codes "C1") f.c1,
-      finding-plain e (codes "C2") true Voter f.c2,
-      finding-plain e (codes "C3") true Project f.c3,
-      finding-plain e (codes "C4") true Project f.c4,
-      finding-plain e (codes "C5") (not m.stable) Project f.c5,
-      finding-plain e (codes "S5") m.stable Project f.s5,
-    )
+    list-plain 2 (map (λ c. prices.found_json e (name c) (is_asked m c) (found f c)) all_conditions)
+    (each-plain 2 (λ c. prices.found_json e (name c) (is_asked m c) (found f c)) all_conditions
+    (λ c. found-plain e (name c) (is_asked m c) (found f c)))
 
 prices-failed-plain : (e : Instance) (v : Verdict) → IsPlain 1 (prices.first_failed e v)
 prices-failed-plain e verdict.Supported = leaf 1
@@ -238,11 +237,6 @@ pub groups_are_plain : (m : Measure) (e : Instance) (w : List Bool) (xs : List G
 groups_are_plain m e w xs =
     let group = or-null-plain 2 (groups.group_json e) (shown xs) (group-plain e) in
     let short = short-plain e (first_short xs) in grind (arith, election-plain e, outcome-plain e w)
-
--- margins
-each-plain : {A : Type 0} (k : ℕ) (told : A → Data) (xs : List A) → ((x : A) → IsPlain k (told x))
-    → AllByRecursion (IsPlain k) (map told xs)
-each-plain k told xs each = all-map (IsPlain k) told xs (all-every (λ x. IsPlain k (told x)) xs each)
 
 margin-plain : (e : Instance) (q : ℕ × ProjectMargins) → IsPlain 1 (margins.margin_json e q)
 margin-plain e q = grind (arith, project-plain e (Some q.0))

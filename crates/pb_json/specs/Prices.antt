@@ -1,7 +1,8 @@
 -- The answer on prices, with what each condition comes to. The amounts of a certificate are in grains.
-use Rattle.std.specs.Prelude.{◌==◌, if◌then◌else◌, nat_le, nat_lt, not, Bool, true, false, ℕ, List, [], ◌∷◌, ◌++◌, IfSome, Option, Some, None, codes, option_map}
+use Rattle.std.specs.Prelude.{Bool, true, false, ℕ, List, [], ◌∷◌, IfSome, Option, Some, None, codes, map, option_map}
 use Rattle.serde_json.specs.Data.{Data, null}
-use Rattle.pb_election.specs.Instance.{Instance, IsProject}
+use Rattle.pb_election.specs.Instance.{Instance}
+use Rattle.pb_price.specs.Condition.{all_conditions, culprits, found, holds, is_asked, name}
 use Rattle.pb_price.specs.OnGroups.{on_groups}
 use Rattle.pb_price.specs.Told.{price_failed}
 use Rattle.pb_price.specs.declared.Comparison.{Comparison}
@@ -10,7 +11,8 @@ use Rattle.pb_price.specs.declared.Findings.{Findings}
 use Rattle.pb_cohesion.specs.declared.Mode.{Mode}
 use Rattle.pb_price.specs.declared.OnGroups.{OnGroups}
 use Rattle.pb_price.specs.declared.OnGroups.TheVariants.{Strict, Weak, Little}
-use Rattle.pb_price.specs.declared.PaymentFinding.{PaymentFinding}
+use Rattle.pb_price.specs.declared.condition.Found.{Found}
+use Rattle.pb_price.specs.declared.condition.Found.TheVariants.{Totals, Payments, Voters, Projects}
 use Rattle.pb_price.specs.declared.Verdict.{Verdict}
 use Rattle.pb_price.specs.declared.Verdict.TheVariants as verdict
 use Rattle.pb_records.specs.Records.{Text}
@@ -46,59 +48,29 @@ condition_json name asked holds culprits first shown = fields (
     ∷ (codes "shown", shown)
     ∷ [])
 
--- Feasible and Cover compare two totals; where that is false, it counts as one culprit
-abbrev pub totals_json : Instance → Text → Bool → Bool → ℕ → ℕ → Data
-totals_json e name asked holds sum bound =
-    condition_json name asked holds (if holds then 0 else 1) null (sums_json e (amount sum) bound nowhere)
+-- the first culprit of a finding on voters or on projects
+abbrev pub first_at : Instance → At → Finding → Data
+first_at e at f = place_or_null e (option_map (place_at at) f.first)
 
--- the others hold where they have no culprit
-abbrev pub finding_json : Instance → Text → Bool → At → Finding → Data
-finding_json e name asked at f =
-    condition_json name asked (f.count == 0) f.count
-    (place_or_null e (option_map (place_at at) f.first)) (comparison_or_null e at f.shown)
+-- the first culprit of a condition, and the sums that it compares
+abbrev pub first_culprit : Instance → Found → Data
+first_culprit e (Totals it_holds total limit) = null
+first_culprit e (Payments f) = pair_or_null e f.first
+first_culprit e (Voters f) = first_at e Voter f
+first_culprit e (Projects f) = first_at e Project f
 
-abbrev pub payments_json : Instance → Text → PaymentFinding → Data
-payments_json e name f =
-    condition_json name true (f.count == 0) f.count (pair_or_null e f.first) null
+abbrev pub shown_json : Instance → Found → Data
+shown_json e (Totals it_holds total limit) = sums_json e (amount total) limit nowhere
+shown_json e (Payments f) = null
+shown_json e (Voters f) = comparison_or_null e Voter f.shown
+shown_json e (Projects f) = comparison_or_null e Project f.shown
 
--- the conditions, in their order: C2 is on voters, C1 on payments, and the others are on projects
-abbrev pub limit_conditions : Bool → Instance → Findings → List Data
-limit_conditions exhaustive e f =
-    totals_json e (codes "Feasible") true (nat_le f.total f.limit) f.total f.limit
-    ∷ finding_json e (codes "Exhaustive") exhaustive Project f.exhaustive
-    ∷ []
+abbrev pub found_json : Instance → Text → Bool → Found → Data
+found_json e name asked f = condition_json name asked (holds f) (culprits f) (first_culprit e f) (shown_json e f)
 
-abbrev pub outcome_conditions : Mode → Instance → Findings → List Data
-outcome_conditions m e f =
-    limit_conditions m.exhaustive e f
-    ++ (totals_json e (codes "Cover") m.cover (nat_lt f.limit f.budgets) f.budgets f.limit ∷ [])
-
-abbrev pub voter_conditions : Instance → Findings → List Data
-voter_conditions e f =
-    payments_json e (codes "C1") f.c1
-    ∷ finding_json e (codes "C2") true Voter f.c2
-    ∷ []
-
-abbrev pub project_conditions : Instance → Findings → List Data
-project_conditions e f =
-    finding_json e (codes "C3") true Project f.c3
-    ∷ finding_json e (codes "C4") true Project f.c4
-    ∷ []
-
-abbrev pub payment_conditions : Instance → Findings → List Data
-payment_conditions e f = voter_conditions e f ++ project_conditions e f
-
-abbrev pub supporter_conditions : Bool → Instance → Findings → List Data
-supporter_conditions stable e f =
-    finding_json e (codes "C5") (not stable) Project f.c5
-    ∷ finding_json e (codes "S5") stable Project f.s5
-    ∷ []
-
-abbrev pub conditions : Mode → Instance → Findings → List Data
-conditions m e f = outcome_conditions m e f ++ payment_conditions e f ++ supporter_conditions m.stable e f
-
+-- the conditions, in their order
 abbrev pub conditions_json : Mode → Instance → Findings → Data
-conditions_json m e f = list (conditions m e f)
+conditions_json m e f = list (map (λ c. found_json e (name c) (is_asked m c) (found f c)) all_conditions)
 
 abbrev pub is_yes : Verdict → Bool
 is_yes verdict.Supported = true
@@ -172,15 +144,7 @@ amount_members f =
     ∷ (codes "voter_budget", amount f.voter_budget)
     ∷ []
 
--- the projects that findings name are those of the election
-pub record FindingNamesProjects (e : Instance) (at : At) (f : Finding) : Type 0 where
+-- the projects that a finding names are those of the election
+pub record FindingCanBeTold (e : Instance) (at : At) (f : Finding) : Type 0 where
   pub first : IfSome f.first (λ x. NamesProject e (place_at at x))
   pub shown : IfSome f.shown (λ m. NamesProject e (place_at at m.at))
-
-pub record FindingsNameProjects (e : Instance) (f : Findings) : Type 0 where
-  pub exhaustive : FindingNamesProjects e Project f.exhaustive
-  pub c1 : IfSome f.c1.first (λ q. IsProject e q.1)
-  pub c3 : FindingNamesProjects e Project f.c3
-  pub c4 : FindingNamesProjects e Project f.c4
-  pub c5 : FindingNamesProjects e Project f.c5
-  pub s5 : FindingNamesProjects e Project f.s5

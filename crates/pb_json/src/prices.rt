@@ -1,6 +1,7 @@
 //! The answer on prices.
 ghost use Rattle.std.specs.Prelude.{◌≡◌, IfOk, IfSome, OnOk, option_map};
 ghost use Rattle.pb_election.specs.Instance.{IsProject};
+ghost use Rattle.pb_price.specs.Condition.{FindingsNameProjects};
 ghost use Rattle.pb_price.specs.Told.{PricesNameProject};
 ghost use Rattle.serde_json.specs.View.{members_view, view};
 ghost use Rattle.pb_json.specs.Members.{with_all};
@@ -29,7 +30,7 @@ pub fn prices_json(
     nearest: Option<NearestGroup>,
 ) -> Result<Value, AllocError>
     requires verdict { PricesNameProject (decided.now).election verdict }
-    requires findings { spec.FindingsNameProjects (decided.now).election findings.now }
+    requires findings { FindingsNameProjects (decided.now).election findings.now }
     requires nearest { IfSome nearest (λ g. IsProject (decided.now).election g.project) }
     ensures { IfOk result (λ v. view v ≡ spec.prices_json mode (decided.now).election (decided.now).outcome.marks verdict findings.now nearest) }
 {

@@ -14,7 +14,7 @@ mod telling;
 pub use digest::sum_of;
 pub use entry::{PageNames, page_answer};
 pub use groups_entry::groups_page_answer;
-pub use pb_figures::{Compared, Figure, closest_first, wrongly_paid_first};
+pub use pb_figures::{Figure, closest_first, wrongly_paid_first};
 pub use pb_markup::{Attributes, Name, Page, Tag, push_escaped};
 pub use pb_visible::visible;
 pub use pb_words::{Headline, Language};

@@ -22,6 +22,7 @@ pub mod Counting
 pub mod Looking
 pub mod Explained
 pub mod Told
+pub mod Named
 pub mod Lowest
 pub mod FirstFalse
 pub mod Reached

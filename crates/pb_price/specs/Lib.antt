@@ -6,6 +6,7 @@ pub mod Promises
 pub mod Answers
 pub mod Margins
 pub mod Findings
+pub mod Condition
 pub mod Told
 pub mod NearestGroup
 pub mod Ranges

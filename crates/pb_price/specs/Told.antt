@@ -1,29 +1,21 @@
 -- What the findings on prices tell: which conditions hold, and the first that doesn't; and how that is told.
-use Rattle.std.specs.Prelude.{◌≡◌, ◌<◌, ◌≤◌, ◌↔◌, ◌&&◌, if◌then◌else◌, nat_le, nat_lt, Bool, List, Option, Some, None, codes, option_map}
+use Rattle.std.specs.Prelude.{◌↔◌, ◌&&◌, if◌then◌else◌, nat_le, nat_lt, IsTrue, Bool, List, Option, Some, None, codes, option_map}
 use Rattle.std.specs.Option.{option_or}
 use Rattle.pb_election.specs.Instance.{Instance}
 use Rattle.pb_certificate.specs.Prices.{Prices}
-use Rattle.pb_cohesion.specs.Conditions.{C1, C2, C3, C4, C5, Cover, Exhaustive, Feasible, S5}
 use Rattle.pb_cohesion.specs.Failed.{Failed, NamesProject, failed}
+use Rattle.pb_price.specs.Condition.{Holds, found, holds}
 use Rattle.pb_price.specs.declared.Failure.{Failure}
 use Rattle.pb_price.specs.declared.Failure.TheVariants as failure
 use Rattle.pb_price.specs.declared.Findings.{Findings}
+use Rattle.pb_price.specs.declared.condition.Condition.{Condition}
 use Rattle.pb_cohesion.specs.declared.Mode.{Mode}
 use Rattle.pb_price.specs.declared.Verdict.{Verdict}
 use Rattle.pb_price.specs.declared.Verdict.TheVariants as verdict
 
--- Feasible holds where the total is at most the limit, Cover where the budgets are more than the limit, and each other
--- condition where it has no culprit
+-- each condition holds where the findings tell that it does
 pub record TellWhatHolds (e : Instance) (w : List Bool) (p : Prices) (f : Findings) : Type 0 where
-  pub feasible : (f.total ≤ f.limit) ↔ Feasible e w
-  pub exhaustive : (f.exhaustive.count ≡ 0) ↔ Exhaustive e w
-  pub cover : (f.limit < f.budgets) ↔ Cover e p
-  pub c1 : (f.c1.count ≡ 0) ↔ C1 e p
-  pub c2 : (f.c2.count ≡ 0) ↔ C2 e p
-  pub c3 : (f.c3.count ≡ 0) ↔ C3 e w p
-  pub c4 : (f.c4.count ≡ 0) ↔ C4 e w p
-  pub c5 : (f.c5.count ≡ 0) ↔ C5 e w p
-  pub s5 : (f.s5.count ≡ 0) ↔ S5 e w p
+  pub each : (c : Condition) → IsTrue (holds (found f c)) ↔ Holds c e w p
 
 -- The first condition that the mode asks for and the findings tell to be false, with its first culprit.
 

@@ -1,9 +1,10 @@
 //! Laws of the verdict and of the sums that it compares, over the definitions alone.
 
-ghost use Rattle.std.specs.Prelude.{◌≡◌, ◌≤◌, ◌↔◌, Bool, List, None, Some};
+ghost use Rattle.std.specs.Prelude.{◌≡◌, ◌≤◌, ◌↔◌, Bool, IsTrue, List, None, Some};
 ghost use Rattle.pb_election.specs.Instance.{Instance};
 ghost use Rattle.pb_election.specs.Text.{IsElection};
 ghost use Rattle.pb_certificate.specs.Prices.{ArePrices, Prices};
+ghost use Rattle.pb_price.specs.Condition.{Holds, is_asked};
 ghost use Rattle.pb_price.specs.Findings.{findings};
 ghost use Rattle.pb_price.specs.First.{First};
 ghost use Rattle.pb_price.specs.FirstFalse.{IsFirstFalse};
@@ -12,6 +13,7 @@ ghost use Rattle.pb_price.specs.Supports.{Supports};
 ghost use Rattle.pb_price.specs.Ranges.{AllSumsFit};
 ghost use Rattle.pb_price.specs.Told.{TellWhatHolds, first_told};
 ghost use Rattle.pb_price.specs.declared.Failure.{Failure};
+ghost use Rattle.pb_price.specs.declared.condition.Condition.{Condition};
 ghost use Rattle.pb_cohesion.specs.declared.Mode.{Mode};
 
 /// The prices support the outcome exactly where no condition fails, whatever the mode asks for.
@@ -36,6 +38,11 @@ pub fn sums_fit()
 /// the limit and Exhaustive is asked for; weak where they are the limit without that; and little where they are less.
 pub fn one_of_three_cases_is_said_of_groups()
     ensures { (m : Mode) (e : Instance) (p : Prices) → IsCaseOf m e p (groups_by m e p) }
+{}
+
+/// The prices support the outcome exactly where each condition holds that the mode asks for.
+pub fn supported_where_each_condition_asked_for_holds()
+    ensures { (m : Mode) (e : Instance) (w : List Bool) (p : Prices) → Supports m e w p ↔ ((c : Condition) → IsTrue (is_asked m c) → Holds c e w p) }
 {}
 
 /// The findings on prices tell which conditions hold: Feasible where the total is at most the limit, Cover where the

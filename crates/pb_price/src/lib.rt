@@ -5,6 +5,7 @@
 
 mod at_hand;
 mod checking;
+mod condition;
 mod explaining;
 mod figures;
 pub mod laws;
@@ -17,6 +18,7 @@ mod tallying;
 mod telling;
 
 pub use checking::{check, check_rows};
+pub use condition::{Condition, Found};
 pub use explaining::findings_of;
 pub use figures::{findings_and_margins_of, margins_of};
 pub use nearest::{NearestGroup, nearest_to};

@@ -1,8 +1,8 @@
 //! What each condition on prices comes to, in a sentence with its figures.
-use crate::condition::Condition;
 use pb_case::{Case, Fillings};
-use pb_figures::{Compared, Figure, PriceFigures};
+use pb_figures::{Figure, PriceFigures};
 use pb_markup::Page;
+use pb_price::Condition;
 use pb_words::Sentence;
 
 /// Adds what a condition comes to.
@@ -26,7 +26,7 @@ pub(crate) fn push_found(
 }
 
 fn push_feasible(page: &mut Page, case: &Case<'_>, figures: &PriceFigures) {
-    let sentence = if Condition::Feasible.holds(&figures.findings) {
+    let sentence = if figures.holds(Condition::Feasible) {
         Sentence::FoundFeasible
     } else {
         Sentence::BrokenFeasible
@@ -38,19 +38,19 @@ fn push_feasible(page: &mut Page, case: &Case<'_>, figures: &PriceFigures) {
 }
 
 fn push_exhaustive(page: &mut Page, case: &Case<'_>, figures: &PriceFigures) {
-    if !Condition::Feasible.holds(&figures.findings) {
+    if !figures.holds(Condition::Feasible) {
         return page.text(case.words.say(Sentence::NothingFits));
     }
-    let sentence = if Condition::Exhaustive.holds(&figures.findings) {
+    let sentence = if figures.holds(Condition::Exhaustive) {
         Sentence::FoundExhaustive
     } else {
         Sentence::BrokenExhaustive
     };
-    push_compared(page, case, figures, Compared::Exhaustive, sentence);
+    push_compared(page, case, figures, Condition::Exhaustive, sentence);
 }
 
 fn push_cover(page: &mut Page, case: &Case<'_>, figures: &PriceFigures) {
-    let sentence = if Condition::Cover.holds(&figures.findings) {
+    let sentence = if figures.holds(Condition::Cover) {
         Sentence::FoundCover
     } else {
         Sentence::BrokenCover
@@ -74,52 +74,52 @@ fn push_c1(page: &mut Page, case: &Case<'_>, figures: &PriceFigures) {
 
 fn push_c2(page: &mut Page, case: &Case<'_>, figures: &PriceFigures) {
     let none = Fillings::none(case.words.alloc);
-    let Some(shown) = figures.findings.c2.shown else {
+    let Some(shown) = figures.shown(Condition::C2) else {
         return case.say(page, Sentence::NoVoters, &none);
     };
-    let sentence = if Condition::C2.holds(&figures.findings) {
+    let sentence = if figures.holds(Condition::C2) {
         Sentence::FoundC2
     } else {
         Sentence::BrokenC2
     };
     let fillings = none
         .and_text("voter", case.voter(shown.at))
-        .and_money("spent", Figure::Amount(Compared::C2))
-        .and_money("over", Figure::AmountOff(Compared::C2))
-        .and_money("budget", Figure::Bound(Compared::C2));
+        .and_money("spent", Figure::Amount(Condition::C2))
+        .and_money("over", Figure::AmountOff(Condition::C2))
+        .and_money("budget", Figure::Bound(Condition::C2));
     case.say(page, sentence, &fillings);
 }
 
 fn push_c3(page: &mut Page, case: &Case<'_>, figures: &PriceFigures) {
-    if Condition::C3.holds(&figures.findings) {
+    if figures.holds(Condition::C3) {
         return case.say(page, Sentence::FoundC3, &Fillings::none(case.words.alloc));
     }
-    push_compared(page, case, figures, Compared::C3, Sentence::BrokenC3);
+    push_compared(page, case, figures, Condition::C3, Sentence::BrokenC3);
 }
 
 fn push_c4(page: &mut Page, case: &Case<'_>, figures: &PriceFigures) {
-    if Condition::C4.holds(&figures.findings) {
+    if figures.holds(Condition::C4) {
         return case.say(page, Sentence::FoundC4, &Fillings::none(case.words.alloc));
     }
-    push_compared(page, case, figures, Compared::C4, Sentence::BrokenC4);
+    push_compared(page, case, figures, Condition::C4, Sentence::BrokenC4);
 }
 
 fn push_c5(page: &mut Page, case: &Case<'_>, figures: &PriceFigures) {
-    let sentence = if Condition::C5.holds(&figures.findings) {
+    let sentence = if figures.holds(Condition::C5) {
         Sentence::FoundC5
     } else {
         Sentence::BrokenC5
     };
-    push_compared(page, case, figures, Compared::C5, sentence);
+    push_compared(page, case, figures, Condition::C5, sentence);
 }
 
 fn push_s5(page: &mut Page, case: &Case<'_>, figures: &PriceFigures) {
-    let sentence = if Condition::S5.holds(&figures.findings) {
+    let sentence = if figures.holds(Condition::S5) {
         Sentence::FoundS5
     } else {
         Sentence::BrokenS5
     };
-    push_compared(page, case, figures, Compared::S5, sentence);
+    push_compared(page, case, figures, Condition::S5, sentence);
 }
 
 // Adds a sentence on the project that a finding shows, with the two sums that are compared there. Where there is none,
@@ -128,11 +128,11 @@ fn push_compared(
     page: &mut Page,
     case: &Case<'_>,
     figures: &PriceFigures,
-    of: Compared,
+    of: Condition,
     sentence: Sentence,
 ) {
     let none = Fillings::none(case.words.alloc);
-    let Some(shown) = figures.finding(of).shown else {
+    let Some(shown) = figures.shown(of) else {
         return case.say(page, case.or_no_projects(Sentence::AllFunded), &none);
     };
     let fillings = none
@@ -142,12 +142,13 @@ fn push_compared(
     case.say(page, sentence, &fillings);
 }
 
-// The placeholder of what a condition compares with the bound.
-fn amount_slot(of: Compared) -> &'static str {
+// The placeholder of what a condition compares with the bound at a place, where it does.
+fn amount_slot(of: Condition) -> &'static str {
     match of {
-        Compared::Exhaustive | Compared::C5 => "left",
-        Compared::C2 => "spent",
-        Compared::C3 | Compared::C4 => "paid",
-        Compared::S5 => "offer",
+        Condition::Exhaustive | Condition::C5 => "left",
+        Condition::C2 => "spent",
+        Condition::C3 | Condition::C4 => "paid",
+        Condition::S5 => "offer",
+        Condition::Feasible | Condition::Cover | Condition::C1 => "",
     }
 }

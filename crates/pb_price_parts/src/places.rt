@@ -1,9 +1,8 @@
 //! At how many places a condition on prices fails, and where by most.
-use crate::condition::Condition;
 use pb_case::{Case, Fillings};
-use pb_figures::{Compared, Figure, Payment, PriceFigures, Spender};
+use pb_figures::{Figure, Payment, PriceFigures, Spender};
 use pb_markup::Page;
-use pb_price::ProjectMargins;
+use pb_price::{Condition, ProjectMargins};
 use pb_words::Sentence;
 
 /// Adds at how many places a condition fails, where these are several, and at which by most.
@@ -13,7 +12,7 @@ pub(crate) fn push_places(
     figures: &PriceFigures,
     condition: Condition,
 ) {
-    let count = count_of(figures, condition);
+    let count = figures.findings.found(condition).culprits();
     if count < 2 {
         return;
     }
@@ -27,20 +26,6 @@ pub(crate) fn push_places(
     let fillings = Fillings::none(case.words.alloc).and_number("count", count);
     case.say(page, sentence, &fillings);
     push_most(page, case, figures, condition);
-}
-
-fn count_of(figures: &PriceFigures, condition: Condition) -> u64 {
-    let found = &figures.findings;
-    match condition {
-        Condition::Feasible | Condition::Cover => 0,
-        Condition::Exhaustive => u64::from(found.exhaustive.count),
-        Condition::C1 => found.c1.count,
-        Condition::C2 => u64::from(found.c2.count),
-        Condition::C3 => u64::from(found.c3.count),
-        Condition::C4 => u64::from(found.c4.count),
-        Condition::C5 => u64::from(found.c5.count),
-        Condition::S5 => u64::from(found.s5.count),
-    }
 }
 
 fn push_most(page: &mut Page, case: &Case<'_>, figures: &PriceFigures, condition: Condition) {
@@ -84,69 +69,55 @@ fn push_spender(page: &mut Page, case: &Case<'_>, figures: &PriceFigures, spende
     case.say(page, Sentence::FoundC2, &fillings);
 }
 
-// Adds the project at which a condition fails by most.
+// Adds the project at which a condition on projects fails by most.
 fn push_largest(page: &mut Page, case: &Case<'_>, figures: &PriceFigures, condition: Condition) {
-    let Some(most) = Most::of(condition) else {
+    let Some(found) = figures.finding(condition) else {
         return;
     };
-    let j = largest(figures, most.compared);
+    let (here, elsewhere) = largest_sentences(condition);
+    let j = largest(figures, condition);
     page.text(" ");
-    let figure = figure_at(most.compared, j);
+    let figure = figure_at(condition, j);
     let fillings = Fillings::none(case.words.alloc).and_money("amount", figure);
-    if figures.finding(most.compared).first == Some(j) {
-        return case.say(page, most.here, &fillings);
+    if found.first == Some(j) {
+        return case.say(page, here, &fillings);
     }
     let fillings = fillings.and_label("project", case.project(j));
-    case.say(page, most.elsewhere, &fillings);
+    case.say(page, elsewhere, &fillings);
 }
 
 // How the page says where a condition on projects fails by most: at the one that it names, or elsewhere.
-#[derive(Clone, Copy)]
-struct Most {
-    compared: Compared,
-    here: Sentence,
-    elsewhere: Sentence,
-}
-
-impl Most {
-    fn of(condition: Condition) -> Option<Most> {
-        let (compared, here, elsewhere) = match condition {
-            Condition::Exhaustive => (
-                Compared::Exhaustive,
-                Sentence::DearestHere,
-                Sentence::DearestAt,
-            ),
-            Condition::C3 => (Compared::C3, Sentence::LargestHere, Sentence::LargestAt),
-            Condition::C4 => (Compared::C4, Sentence::AmountHere, Sentence::AmountAt),
-            Condition::C5 => (Compared::C5, Sentence::LargestHere, Sentence::LargestAt),
-            Condition::S5 => (Compared::S5, Sentence::LargestHere, Sentence::LargestAt),
-            _ => return None,
-        };
-        Some(Most {
-            compared,
-            here,
-            elsewhere,
-        })
+fn largest_sentences(condition: Condition) -> (Sentence, Sentence) {
+    match condition {
+        Condition::Exhaustive => (Sentence::DearestHere, Sentence::DearestAt),
+        Condition::C4 => (Sentence::AmountHere, Sentence::AmountAt),
+        Condition::C3 | Condition::C5 | Condition::S5 => {
+            (Sentence::LargestHere, Sentence::LargestAt)
+        }
+        Condition::Feasible | Condition::Cover | Condition::C1 | Condition::C2 => {
+            (Sentence::LargestHere, Sentence::LargestAt)
+        }
     }
 }
 
 // The amount by which a project is found where a condition fails by most.
-fn figure_at(compared: Compared, j: u32) -> Figure {
-    match compared {
-        Compared::Exhaustive | Compared::C2 => Figure::Cost(j),
-        Compared::C3 => Figure::PaidOff(j),
-        Compared::C4 => Figure::Paid(j),
-        Compared::C5 => Figure::LeftOff(j),
-        Compared::S5 => Figure::OfferOff(j),
+fn figure_at(condition: Condition, j: u32) -> Figure {
+    match condition {
+        Condition::C3 => Figure::PaidOff(j),
+        Condition::C4 => Figure::Paid(j),
+        Condition::C5 => Figure::LeftOff(j),
+        Condition::S5 => Figure::OfferOff(j),
+        Condition::Exhaustive => Figure::Cost(j),
+        Condition::Feasible | Condition::Cover | Condition::C1 | Condition::C2 => Figure::Cost(j),
     }
 }
 
 // The first project at which a condition fails by most.
-fn largest(figures: &PriceFigures, compared: Compared) -> u32 {
+fn largest(figures: &PriceFigures, condition: Condition) -> u32 {
     let mut most = None;
     let mut at = 0;
     for (j, project) in (1u32..).zip(&figures.margins.projects) {
-        let amount = amount_at(figures, compared, project);
+        let amount = amount_at(figures, condition, project);
         if amount > most {
             most = amount;
             at = j;
@@ -157,18 +128,22 @@ fn largest(figures: &PriceFigures, compared: Compared) -> u32 {
 
 // By how much a condition fails at a project, where it may fail there, and 0 where it holds. For Exhaustive it is the
 // cost, where it fails.
-fn amount_at(figures: &PriceFigures, compared: Compared, project: &ProjectMargins) -> Option<u128> {
-    if project.funded != (compared == Compared::C3) {
+fn amount_at(
+    figures: &PriceFigures,
+    condition: Condition,
+    project: &ProjectMargins,
+) -> Option<u128> {
+    if project.funded != (condition == Condition::C3) {
         return None;
     }
-    match compared {
-        Compared::Exhaustive if !would_fit(figures, project) => None,
-        Compared::Exhaustive => Some(project.cost),
-        Compared::C2 => None,
-        Compared::C3 => Some(project.paid.abs_diff(project.cost)),
-        Compared::C4 => Some(project.paid),
-        Compared::C5 => Some(above(project.left, project.cost)),
-        Compared::S5 => Some(above(project.offer, project.cost)),
+    match condition {
+        Condition::Exhaustive if would_fit(figures, project) => Some(project.cost),
+        Condition::Exhaustive => None,
+        Condition::C3 => Some(project.paid.abs_diff(project.cost)),
+        Condition::C4 => Some(project.paid),
+        Condition::C5 => Some(above(project.left, project.cost)),
+        Condition::S5 => Some(above(project.offer, project.cost)),
+        Condition::Feasible | Condition::Cover | Condition::C1 | Condition::C2 => None,
     }
 }
 

@@ -27,7 +27,7 @@ use Rattle.pb_price.specs.declared.Failure.TheVariants as failure
 use Rattle.pb_price.specs.declared.Findings.{Findings}
 use Rattle.pb_cohesion.specs.declared.Mode.{Mode}
 use Rattle.pb_price.specs.declared.Verdict.{Verdict}
-use Rattle.pb_json.proofs.Named.{among-projects, projects-are, unapproved-name}
+use Rattle.pb_price.proofs.Named.{among-projects, projects-are, unapproved-name}
 use Rattle.pb_price.proofs.Told.{tell-first}
 use Rattle.pb_records.specs.Loading.{Delivery}
 use Rattle.pb_reply.specs.Inputs.{StatesPrices}

@@ -5,9 +5,8 @@ use Rattle.pb_election.specs.Instance.{Instance, IsProject, voters}
 use Rattle.pb_election.specs.Outcome.{most_total}
 use Rattle.pb_cohesion.specs.Failed.{RefutationNamesProject, ViolationNamesProject}
 use Rattle.pb_cohesion.specs.declared.Mode.{Mode}
-use Rattle.pb_explain.specs.PriceTable.{NameProjects}
 use Rattle.pb_json.specs.Groups as of_groups
-use Rattle.pb_json.specs.Prices.{FindingsNameProjects}
+use Rattle.pb_price.specs.Condition.{FindingsNameProjects}
 use Rattle.pb_price.specs.First.{verdict_of}
 use Rattle.pb_price.specs.Told.{PricesNameProject, first_told}
 use Rattle.pb_price.specs.declared.Findings.{Findings}
@@ -22,8 +21,7 @@ use Rattle.pb_report.specs.declared.weights.WeightsFound.{WeightsFound}
 
 pub record FindingsCanBeTold (e : Instance) (f : Findings) : Type 0 where
   pub unit : 10 ^ 6 ≤ f.grains_per_unit
-  pub projects : NameProjects e f
-  pub objects : FindingsNameProjects e f
+  pub projects : FindingsNameProjects e f
   pub verdicts : (m : Mode) → PricesNameProject e (verdict_of (first_told m f))
 
 pub record PricesCanBeTold (e : Instance) (p : PricesFound) : Type 0 where

@@ -1,12 +1,14 @@
-/* Calls of the proved library as a WebAssembly module. A file is put into the module's memory, a call answers a status and
-   bytes. Room that was given isn't taken back before the next audit, for which all memory is as it was at first. */
+/* Calls of the proved library. A file is put into its memory, a call answers a status and bytes. Room that was given isn't
+   taken back before the next audit, for which all memory is as it was at first. */
 
 import { COMMANDS, entryCall, pageCall, reportCall, totalCall } from "./commands.js";
 import { KINDS } from "./kinds.js";
+import { addressOf } from "./loaded.js";
 import { COUNTS, entryIn, linesIn, replyIn } from "./replies.js";
 import { NO_MEMORY, OutOfMemory } from "./statuses.js";
 import type { Call, Command, EntryFiles, PageCommand, Place, Question, Row, Word } from "./commands.js";
 import type { Kind } from "./kinds.js";
+import type { Calls, Loaded } from "./loaded.js";
 import type { Reply, ToldEntry, Total } from "./replies.js";
 import type { Mode } from "./statuses.js";
 
@@ -20,12 +22,6 @@ export interface Ended {
 export interface SaidOfTotal {
   readonly status: number;
   readonly text: string;
-}
-
-/** What the module exports. */
-interface Calls {
-  readonly memory: WebAssembly.Memory;
-  readonly [name: string]: unknown;
 }
 
 /** The room for an answer that is guessed at first: for a text, and for some lines. */
@@ -44,38 +40,30 @@ function guessFor(command: Command, { files }: Question): number {
 
 export class Auditor {
   readonly calls: Calls;
-  /** The memory below the heap, as it was at first: the stack, in which there is nothing, and from here on these bytes. */
-  private readonly from: number;
-  private readonly first: Uint8Array;
   private answered: Place | undefined;
   private needed: Place | undefined;
   private facts: Place | undefined;
   private kind: Place | undefined;
   private total: Place | undefined;
 
-  constructor(module: WebAssembly.Module) {
-    this.calls = new WebAssembly.Instance(module, {}).exports as unknown as Calls;
-    const below = this.below();
-    this.from = Math.max(0, below.findIndex(byte => byte !== 0));
-    this.first = below.slice(this.from);
+  constructor(private readonly loaded: Loaded) {
+    this.calls = loaded.calls;
   }
 
-  /** The bytes of memory that the module has taken. */
+  /** The bytes of memory that the library has been given. */
   get taken(): number {
     return this.calls.memory.buffer.byteLength;
   }
 
-  /** Makes the memory what it was at first, but for how much there is. */
-  reset(): void {
-    const below = this.below();
-    below.fill(0);
-    below.set(this.first, this.from);
-    this.answered = this.needed = this.facts = this.kind = this.total = undefined;
+  /** Has memory ready for files of so many bytes together, and for an answer. */
+  expect(length: number): void {
+    this.loaded.expect(length + TEXT_ROOM + LINES_ROOM);
   }
 
-  /** The memory below what was never taken. */
-  private below(): Uint8Array {
-    return this.bytes({ at: 0n, length: this.room(0).at });
+  /** Makes the memory what it was at first, but for how much there is. */
+  reset(): void {
+    this.loaded.reset();
+    this.answered = this.needed = this.facts = this.kind = this.total = undefined;
   }
 
   private export(name: string): (...words: Word[]) => Word {
@@ -84,9 +72,7 @@ export class Auditor {
 
   /** Room for so many bytes. */
   room(length: number): Place {
-    const at = this.export("pbaudit_room")(BigInt(length)) as bigint;
-    if (!at) throw new OutOfMemory();
-    return { at, length: BigInt(length) };
+    return { at: addressOf(this.calls, length), length: BigInt(length) };
   }
 
   /** The bytes of a place, as long as the memory doesn't grow. */
@@ -153,7 +139,7 @@ export class Auditor {
     return Number(this.view(place).getBigUint64(0, true));
   }
 
-  /** Calls a function of the module. The room of an answer is used again for the next. */
+  /** Calls a function of the library. The room of an answer is used again for the next. */
   private call({ name, words }: Call, guess: number): Ended {
     const needed = this.needed ??= this.room(8);
     let room = this.answered && this.answered.length >= guess ? this.answered : this.room(guess);

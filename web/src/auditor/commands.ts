@@ -3,7 +3,7 @@
 
 import type { Mode } from "./statuses.js";
 
-/** A file, or a text, in the module's memory. */
+/** A file, or a text, in the library's memory. */
 export interface Place {
   readonly at: bigint;
   readonly length: bigint;

@@ -3,11 +3,13 @@
 
 export const YES = 0, NO = 1, REFUSED = 2, NO_MEMORY = 4;
 export const LONGEST_FILE = 2 ** 28;
+/** The version of the library's interface, PBAUDIT_INTERFACE of its header. */
+export const INTERFACE = 2;
 
-/** The module has no memory left, and no more is given. */
+/** The library has no memory left, and no more is given. */
 export class OutOfMemory extends Error {}
 
-/** Whether the module has no memory left, or whoever runs it. */
+/** Whether the library has no memory left, or whoever runs it. */
 export const isOutOfMemory = (error: unknown): boolean =>
   error instanceof OutOfMemory || (error instanceof RangeError && /memory|allocat/i.test(error.message));
 

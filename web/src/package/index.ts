@@ -2,15 +2,14 @@
 
 import { OutOfMemory } from "../auditor/statuses.js";
 import { Here, Later } from "./answering.js";
-import { bytesOf, folderIn, handedIn } from "./handed.js";
+import { AtHand } from "./at_hand.js";
 import { Library } from "./library.js";
-import { compiledModule } from "./module.js";
+import { loadedModule } from "./module.js";
 import type { Measure } from "../auditor/commands.js";
 import type { Mode } from "../auditor/statuses.js";
 import type { Both, Page, Reading, Refused, Report, Verdict, Written } from "./facts.js";
-import type { CallName, Names, Source } from "./handed.js";
+import type { Names, Source } from "./handed.js";
 import type { AsyncAuditor } from "./later.js";
-import type { Answers } from "./library.js";
 
 export { OutOfMemory };
 export type { Both, Measure, Mode, Page, Reading, Refused, Report, Verdict, Written };
@@ -81,83 +80,10 @@ export interface Auditor {
   folder(files: Iterable<readonly [string, Source]>, asked?: Partial<Mode>): Report;
 }
 
-/** The auditor of files that are at hand. */
-class AtHand implements Auditor {
-  private readonly library: Library;
-
-  constructor(module: WebAssembly.Module) {
-    this.library = new Library(module);
-  }
-
-  private answer<Name extends CallName>(name: Name, handed: readonly unknown[]): Answers[Name] {
-    return this.library.answer(name, handedIn(name, handed, bytesOf));
-  }
-
-  read(...handed: unknown[]): Answers["read"] {
-    return this.answer("read", handed);
-  }
-
-  groups(...handed: unknown[]): Answers["groups"] {
-    return this.answer("groups", handed);
-  }
-
-  prices(...handed: unknown[]): Answers["prices"] {
-    return this.answer("prices", handed);
-  }
-
-  violation(...handed: unknown[]): Answers["violation"] {
-    return this.answer("violation", handed);
-  }
-
-  refutation(...handed: unknown[]): Answers["refutation"] {
-    return this.answer("refutation", handed);
-  }
-
-  both(...handed: unknown[]): Answers["both"] {
-    return this.answer("both", handed);
-  }
-
-  explain(...handed: unknown[]): Answers["explain"] {
-    return this.answer("explain", handed);
-  }
-
-  page(...handed: unknown[]): Answers["page"] {
-    return this.answer("page", handed);
-  }
-
-  margins(...handed: unknown[]): Answers["margins"] {
-    return this.answer("margins", handed);
-  }
-
-  explainGroups(...handed: unknown[]): Answers["explainGroups"] {
-    return this.answer("explainGroups", handed);
-  }
-
-  groupMargins(...handed: unknown[]): Answers["groupMargins"] {
-    return this.answer("groupMargins", handed);
-  }
-
-  groupsPage(...handed: unknown[]): Answers["groupsPage"] {
-    return this.answer("groupsPage", handed);
-  }
-
-  tidy(...handed: unknown[]): Answers["tidy"] {
-    return this.answer("tidy", handed);
-  }
-
-  folder(...handed: unknown[]): Report {
-    // Text has its bytes made when its turn comes, so that not those of all files are there at once.
-    return this.library.folder(folderIn(handed, (source, name) => {
-      bytesOf(source, name);
-      return () => bytesOf(source, name);
-    }));
-  }
-}
-
 /** The auditor, once its module is compiled. */
-export const auditor = async (): Promise<Auditor> => new AtHand(await compiledModule());
+export const auditor = async (): Promise<Auditor> => new AtHand(new Library(await loadedModule()));
 
 /** The same, of files that may still have to be read. */
 export async function asyncAuditor(): Promise<AsyncAuditor> {
-  return new Later(new Here(new Library(await compiledModule())));
+  return new Later(new Here(new Library(await loadedModule())));
 }

@@ -1,5 +1,6 @@
 /* What runs in the worker of the package: it answers one question after the other. */
 
+import { ofModule } from "../auditor/loaded.js";
 import { isOutOfMemory } from "../auditor/statuses.js";
 import { Library } from "./library.js";
 import { takenLater, withEach, withWanted } from "./sources.js";
@@ -25,7 +26,7 @@ function errorOf(error: unknown): NonNullable<Told["error"]> {
 
 onmessage = async ({ data }: MessageEvent<Sent>) => {
   if ("module" in data) {
-    library = new Library(data.module);
+    library = new Library(ofModule(data.module));
     return;
   }
   const told = await answerTo(data).then(answer => ({ answer }), error => ({ error: errorOf(error) }));

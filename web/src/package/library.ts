@@ -1,4 +1,4 @@
-/* What the package answers: the calls of the module on files that are at hand, with what their answers say as facts. */
+/* What the package answers: the calls of the library on files that are at hand, with what their answers say as facts. */
 
 import { ABOUT_PAGE } from "../auditor/commands.js";
 import { Keeper } from "../auditor/keeper.js";
@@ -9,6 +9,7 @@ import { bothIn, pageIn, readingIn, refusalIn, verdictIn } from "./facts.js";
 import { keptOf, reportOf } from "./report.js";
 import type { Auditor as Calls } from "../auditor/auditor.js";
 import type { Command, PageCommand, Place, Question } from "../auditor/commands.js";
+import type { Load } from "../auditor/loaded.js";
 import type { BothObject, ReadObject, VerdictObject } from "../auditor/objects.js";
 import type { Reply, ToldEntry } from "../auditor/replies.js";
 import type { HEADLINES } from "../words/headlines.js";
@@ -33,8 +34,11 @@ export interface Answers {
   readonly tidy: Written | Refused;
 }
 
-/** A file in the module's memory. Of one that is too long there is enough that it is refused for that. */
-const put = (calls: Calls, bytes: Uint8Array): Place => calls.put(bytes.subarray(0, LONGEST_FILE + 1));
+/** Of a file that is too long there is enough that it is refused for that. */
+const cut = (bytes: Uint8Array): Uint8Array => bytes.subarray(0, LONGEST_FILE + 1);
+
+/** A file in the library's memory. */
+const put = (calls: Calls, bytes: Uint8Array): Place => calls.put(cut(bytes));
 
 /** One call: its files, and what is asked of them. */
 class Call {
@@ -42,6 +46,7 @@ class Call {
 
   constructor(private readonly calls: Calls, private readonly given: Handed) {
     const { files, mode, measure, language, names } = given;
+    calls.expect(Object.values(files).reduce((sum, bytes) => sum + cut(bytes).length, 0));
     const nameOf = (role: keyof Names): Place => calls.putText(names[role] ?? role);
     const places = Object.entries(files).map(([role, bytes]) => [role, put(calls, bytes)]);
     this.asked = {
@@ -85,15 +90,15 @@ const SAYS: { readonly [Name in CallName]: (call: Call) => Answers[Name] } = {
   tidy: call => call.answer("tidy", written),
 };
 
-/** The module. No call sees what the one before it left in memory. */
+/** The library. No call sees what the one before it left in memory. */
 export class Library {
   private readonly keeper: Keeper;
 
-  constructor(module: WebAssembly.Module) {
-    this.keeper = new Keeper(module);
+  constructor(load: Load) {
+    this.keeper = new Keeper(load);
   }
 
-  /** Whoever runs the module may have no memory for it, and says so by an error of its own. */
+  /** Whoever runs the library may have no memory for it, and says so by an error of its own. */
   private use<Answer>(does: (calls: Calls) => Answer): Answer {
     try {
       return this.keeper.use(does);

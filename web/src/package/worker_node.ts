@@ -1,9 +1,10 @@
-/* The auditor in a worker of Node, which the program doesn't wait for while nothing is asked. */
+/* The auditor in a worker of Node, which the program doesn't wait for while nothing is asked. It has the module there too: native
+   code goes on until its audit has ended, whoever closes the worker. */
 
 import { Worker } from "node:worker_threads";
 import { auditorBy } from "./away.js";
 import { WORKER } from "./generated_worker.js";
-import { OutOfMemory } from "./index.js";
+import { OutOfMemory } from "./index_node.js";
 import { compiledModule } from "./module.js";
 import type { Start } from "./away.js";
 import type { WorkerAuditor } from "./later.js";

@@ -2,6 +2,7 @@
    went. */
 
 import { Auditor } from "../auditor/auditor.js";
+import { ofModule } from "../auditor/loaded.js";
 import { isOutOfMemory } from "../auditor/statuses.js";
 import { Sha256 } from "../files/sha256.js";
 import { Audit } from "./audit.js";
@@ -108,7 +109,7 @@ let module_: WebAssembly.Module, kept: Auditor | undefined;
 async function endingOf(order: Asked): Promise<Ending> {
   const does = async (): Promise<Ending> => {
     if (order.command === "sums") return sumsOf(order);
-    const auditor = kept ??= new Auditor(module_);
+    const auditor = kept ??= new Auditor(ofModule(module_)());
     auditor.reset();
     return order.command === "kinds" ? kindsOf(auditor, order) : audit(auditor, order);
   };

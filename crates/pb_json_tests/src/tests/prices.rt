@@ -1,7 +1,7 @@
 //! Prices.
 ghost use Rattle.std.specs.Prelude.{◌≡◌};
 ghost use Rattle.pb_election.specs.Instance.{Instance, projects};
-ghost use Rattle.pb_json.specs.Prices.{FindingsNameProjects};
+ghost use Rattle.pb_price.specs.Condition.{FindingsNameProjects};
 
 use super::common::{expect_text, hostile_decided};
 use pb_election::DecidedElection;

@@ -1,6 +1,0 @@
-use Rattle.std.proofs.lemmas.Result.{on_ok_weaker}
-use Rattle.pb_json.proofs.Pushes.{pushed}
-use Rattle.pb_json.proofs.conditions.push_limit_conditions.Goals as goal
-
-pub returns : goal.returns
-returns c = on_ok_weaker c.push_finding.result (λ e. pushed _ _ _ _ _ c.in_ok-push_totals.ensures e) c.push_finding.ensures
