@@ -41,9 +41,12 @@ def make(browser, limit):
     browser.click("#make-election")
 
 
-def made(browser, name="election.pb"):
-    """The bytes of the election that was made, whatever its file is called where there is no name."""
+def made(opened, name="election.pb"):
+    """The bytes of the election that was made, whatever its file is called where there is no name. It is answered first: the button
+    moves once it is."""
+    browser = opened.browser
     browser.wait(IS_MADE, "the election")
+    opened.answers(1)
     path = saved(browser, lambda: browser.click("#sheets-made button"), name)
     assert path.suffix == ".pb"
     return path.read_bytes()
@@ -65,7 +68,7 @@ def told_of(opened, limit):
     make(opened.browser, limit)
     if opened.browser.ask(IN_SIGHT, "#sheets-wrong"):
         return [opened.text("#sheets-wrong")]
-    election = made(opened.browser)
+    election = made(opened)
     opened.browser.ask("document.querySelector('#clear').click()")
     return election
 
@@ -110,7 +113,7 @@ def test_ticked_projects_are_funded(opened, tmp_path):
     assert not opened.browser.ask(IN_SIGHT, "#sheets-wrong")
     opened.browser.click("#sheets-projects li:nth-child(2) input")
     opened.browser.ask("document.querySelector('#sheets-limit').dispatchEvent(new KeyboardEvent('keydown', {key: 'Enter'}))")
-    data = made(opened.browser)
+    data = made(opened)
     assert b"\nPROJECTS\nproject_id;cost;name;selected\na;6;Park;0\nb;4;Library;1\nVOTES\n" in data
     (tmp_path / "made.pb").write_bytes(data)
     assert opened.says("read", "made.pb", folder=tmp_path) == "read 2 voters 2 projects 1 funded\n"
@@ -134,7 +137,7 @@ def test_many_projects_are_ticked(opened, tmp_path):
     assert shown == [100, 200, 250] and not opened.browser.ask(IN_SIGHT, "#sheets-more-projects")
     opened.browser.click("#sheets-projects li:nth-child(250) input")
     make(opened.browser, "10")
-    lines = made(opened.browser).decode().splitlines()
+    lines = made(opened).decode().splitlines()
     assert [line.split(";")[0] for line in lines if line.endswith(";1") and line.startswith("p")] == ["p2", "p249"]
 
 
@@ -185,7 +188,7 @@ def test_what_sheets_hold_stays_text(opened, tmp_path):
     assert evil in opened.text("#sheets-told") and opened.text("#sheets-projects li bdi") == evil
     make(opened.browser, "10")
     # A browser writes other letters where the name of a file can't have one.
-    data = made(opened.browser, name=None).decode()
+    data = made(opened, name=None).decode()
     assert f"\n{evil};6;{evil};0\nVOTES\nvoter_id;vote\n1;{evil}\n" in data
     opened.browser.ask("document.querySelector('#clear').click()")
     (tmp_path / f"{evil} b.csv").write_text("voter;projects\n1;\u202e<b>x</b>,\u05d0\n", encoding="utf-8")
@@ -215,4 +218,4 @@ def test_a_hundred_thousand_voters(opened, tmp_path):
     give(opened, *(tmp_path / name for name in SHEETS))
     make(opened.browser, "100")
     words = ["python3", EXAMPLES / "sheets.py", *(tmp_path / name for name in SHEETS), "100"]
-    assert made(opened.browser) == subprocess.run(words, capture_output=True, check=True).stdout
+    assert made(opened) == subprocess.run(words, capture_output=True, check=True).stdout
