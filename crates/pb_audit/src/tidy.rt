@@ -9,10 +9,9 @@ ghost use Rattle.pb_reply.specs.Turns.{turn};
 
 use pb_certificate::canonical_text_of;
 use pb_election::Election;
-use pb_input::{InputFault, InputName};
+use pb_input::InputName;
 use pb_reply::{
-    Answer, AsFile, File, Given, Status, Unanswered, bytes_of, or_refusal, take_election,
-    unanswered_at,
+    Answer, AsFile, File, Given, Status, Unanswered, bytes_of, or_refusal, take_election, taken_as,
 };
 use std::alloc::{AllocError, Global};
 
@@ -51,14 +50,10 @@ fn tidied(
     ensures { IfTaken result (TidiesPrices election.now (lent certificate.entry)) }
 {
     let bytes = bytes_of(InputName::Certificate, certificate)?;
-    match canonical_text_of(alloc, bytes, election) {
-        Ok(text) => Ok(Answer {
-            text,
-            status: Status::Yes,
-        }),
-        Err(refusal) => Err(unanswered_at(
-            InputName::Certificate,
-            InputFault::Certificate(refusal),
-        )),
-    }
+    let read = canonical_text_of(alloc, bytes, election);
+    let text = taken_as(InputName::Certificate, read)?;
+    Ok(Answer {
+        text,
+        status: Status::Yes,
+    })
 }

@@ -30,11 +30,7 @@ pub fn read_outcome(
     // Where the bytes state an outcome, that one is answered, memory aside.
     ensures only { (marks : List Bool) → IsOutcomeText (certificate_records bytes.now) election.now marks → MatchResult result (λ w. w ≡ funds marks election.now) (λ r. r ≡ no_memory) }
 {
-    let Ok(mut draft) = OutcomeDraft::new(alloc, election) else {
-        return Err(CertRefusal::NO_MEMORY);
-    };
-    match take_all(alloc, bytes, b',', election, &mut draft) {
-        Ok(()) => Ok(Outcome::of(draft.into_marks(), election)),
-        Err(stop) => Err(CertRefusal::of(stop)),
-    }
+    let mut draft = OutcomeDraft::new(alloc, election)?;
+    take_all(alloc, bytes, b',', election, &mut draft)?;
+    Ok(Outcome::of(draft.into_marks(), election))
 }

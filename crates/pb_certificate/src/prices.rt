@@ -77,9 +77,7 @@ impl Prices {
         let rows = Rows::open(alloc, bytes, election)?;
         let denominator = rows.denominator();
         let budget = rows.budget();
-        let Ok(mut payments) = RaggedArray::new(alloc) else {
-            return Err(CertRefusal::NO_MEMORY);
-        };
+        let mut payments = RaggedArray::new(alloc)?;
         gather(alloc, rows, election.voters(), &mut payments)?;
         Ok(Prices::new(election.projects(), denominator, budget, payments))
     }

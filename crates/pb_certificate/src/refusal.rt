@@ -1,8 +1,9 @@
 //! Why a file is refused.
 ghost use Rattle.std.specs.Prelude.{◌≡◌};
-ghost use Rattle.pb_certificate.specs.Faults.{fault_name, fault_number, refusal_where_stopped};
+ghost use Rattle.pb_certificate.specs.Faults.{fault_name, fault_number, no_memory, refusal_where_stopped};
 
 use pb_records::{FaultAt, Stop};
+use std::alloc::AllocError;
 
 /// Why a file is refused as a certificate or as an outcome file.
 #[derive(Clone, Copy, Debug, PartialEq, Eq)]
@@ -44,24 +45,11 @@ pub struct CertRefusal {
 }
 
 impl CertRefusal {
-    /// Out of memory.
-    pub(crate) const NO_MEMORY: CertRefusal = CertRefusal {
+    // Out of memory.
+    const NO_MEMORY: CertRefusal = CertRefusal {
         fault: CertFault::Memory,
         record_number: 0,
     };
-
-    /// The refusal of a file whose reading stopped.
-    pub(crate) fn of(stop: Stop<FaultAt<CertFault>>) -> CertRefusal
-        ensures { result ≡ refusal_where_stopped stop }
-    {
-        match stop {
-            Stop::Fault(at) => CertRefusal {
-                fault: at.fault,
-                record_number: at.record_number,
-            },
-            Stop::Memory => CertRefusal::NO_MEMORY,
-        }
-    }
 
     /// The number that stands for the fault in a report, from 20 for `NotUtf8` to 29 for `Memory`, in the order of
     /// `CertFault`.
@@ -97,6 +85,28 @@ impl CertRefusal {
             CertFault::Repeated => "Repeated",
             CertFault::TooMany => "TooMany",
             CertFault::Memory => "Memory",
+        }
+    }
+}
+
+impl From<AllocError> for CertRefusal {
+    ghost from_gives = { λ _ r. r ≡ no_memory };
+
+    fn from(_error: AllocError) -> CertRefusal {
+        CertRefusal::NO_MEMORY
+    }
+}
+
+impl From<Stop<FaultAt<CertFault>>> for CertRefusal {
+    ghost from_gives = { λ stop r. r ≡ refusal_where_stopped stop };
+
+    fn from(stop: Stop<FaultAt<CertFault>>) -> CertRefusal {
+        match stop {
+            Stop::Fault(at) => CertRefusal {
+                fault: at.fault,
+                record_number: at.record_number,
+            },
+            Stop::Memory => CertRefusal::NO_MEMORY,
         }
     }
 }

@@ -51,16 +51,10 @@ impl Refutation {
         // Where the bytes state weights, those are answered, memory aside.
         ensures only { (w : Weights) → IsRefutationText (certificate_records bytes.now) election.now w → MatchResult result (λ r. r ≡ w) (λ r. r ≡ no_memory) }
     {
-        let Ok(mut draft) = RefutationDraft::new(alloc, election) else {
-            return Err(CertRefusal::NO_MEMORY);
-        };
-        match take_all(alloc, bytes, b',', election, &mut draft) {
-            Ok(()) => {
-                let (cover, rows) = draft.into_weights();
-                Ok(Refutation { cover, rows })
-            }
-            Err(stop) => Err(CertRefusal::of(stop)),
-        }
+        let mut draft = RefutationDraft::new(alloc, election)?;
+        take_all(alloc, bytes, b',', election, &mut draft)?;
+        let (cover, rows) = draft.into_weights();
+        Ok(Refutation { cover, rows })
     }
 
     /// The weight of the condition Cover, at most 10^12. Takes no memory.

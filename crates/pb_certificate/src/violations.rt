@@ -58,16 +58,10 @@ impl Violation {
         // Where the bytes state a measure, a group and a demand, those are answered, memory aside.
         ensures only { (m : Measure) (s t : List ℕ) → IsViolationText (certificate_records bytes.now) election.now m s t → MatchResult result (λ v. (v.measure ≡ m) × (v.group ≡ s) × (v.demand ≡ t)) (λ r. r ≡ no_memory) }
     {
-        let Ok(mut draft) = ViolationDraft::new(alloc, election) else {
-            return Err(CertRefusal::NO_MEMORY);
-        };
-        if let Err(stop) = take_all(alloc, bytes, b',', election, &mut draft) {
-            return Err(CertRefusal::of(stop));
-        }
-        match Violation::of(alloc, &draft, election) {
-            Ok(violation) => Ok(violation),
-            Err(_) => Err(CertRefusal::NO_MEMORY),
-        }
+        let mut draft = ViolationDraft::new(alloc, election)?;
+        take_all(alloc, bytes, b',', election, &mut draft)?;
+        let violation = Violation::of(alloc, &draft, election)?;
+        Ok(violation)
     }
 
     // The violation that the rows state which a draft has taken.

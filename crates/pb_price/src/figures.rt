@@ -15,7 +15,7 @@ ghost use Rattle.pb_price.specs.Inside.Tallies.{IsTallyOf, figures_of};
 
 use crate::explaining::findings_by;
 use crate::tally::ProjectSums;
-use crate::tallying::{CertificateTally, NO_MEMORY, take_certificate};
+use crate::tallying::{CertificateTally, take_certificate};
 use crate::{Findings, Margins, ProjectMargins};
 use pb_certificate::CertRefusal;
 use pb_election::{Election, Outcome};
@@ -94,9 +94,7 @@ fn margins_in(
 {
     let grains_per_unit = 1_000_000 * u64::from(taken.denominator);
     let sums = &taken.tally.projects;
-    let Ok(projects) = margins_by(alloc, election, outcome, taken.denominator, sums) else {
-        return Err(NO_MEMORY);
-    };
+    let projects = margins_by(alloc, election, outcome, taken.denominator, sums)?;
     Ok(Margins {
         grains_per_unit,
         projects,

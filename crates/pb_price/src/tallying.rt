@@ -11,16 +11,10 @@ ghost use Rattle.pb_price.specs.Inside.Tallies.{Tallied};
 
 use crate::open_tally::OpenTally;
 use crate::tally::Tally;
-use pb_certificate::{CertFault, CertRefusal, PriceRow, Prices, Rows};
+use pb_certificate::{CertRefusal, PriceRow, Prices, Rows};
 use pb_election::Election;
 use pb_money::payment_grains;
 use std::alloc::Global;
-
-/// Out of memory.
-pub(crate) const NO_MEMORY: CertRefusal = CertRefusal {
-    fault: CertFault::Memory,
-    record_number: 0,
-};
 
 /// The tally of all rows of a certificate, and the denominator that they are over.
 #[derive(Drop)]
@@ -41,9 +35,7 @@ pub(crate) fn take_certificate(
     let rows = Rows::open(alloc, bytes, election)?;
     let denominator = rows.denominator();
     let budget = payment_grains(rows.budget());
-    let Ok(mut so_far) = OpenTally::new(alloc, election, budget) else {
-        return Err(NO_MEMORY);
-    };
+    let mut so_far = OpenTally::new(alloc, election, budget)?;
     take_rows(&mut so_far, election, rows)?;
     so_far.finish(election);
     Ok(CertificateTally {

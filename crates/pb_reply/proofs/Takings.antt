@@ -1,6 +1,6 @@
 -- What inputs state that were taken.
 use Rattle.std.proofs.Common.{◌≡◌, refl, subst, sym, Bool, Option, List, ℕ}
-use Rattle.std.specs.Prelude.{Result, Ok, Err, Some}
+use Rattle.std.specs.Prelude.{IfOk, MatchResult, Result, Ok, Err, Some}
 use Rattle.pb_election.specs.Instance.{Instance, IsSet, projects}
 use Rattle.pb_records.specs.Loading.{Delivery}
 use Rattle.pb_certificate.specs.Faults.{certificate_records}
@@ -17,6 +17,13 @@ use Rattle.pb_reply.specs.declared.unanswered.Unanswered.TheVariants as unanswer
 pub demand_set : (bytes : List ℕ) (e : Instance) (m : Measure) (group demand : List ℕ)
     → IsViolationText (certificate_records bytes) e m group demand → IsSet 1 (projects e) demand
 demand_set bytes e m group demand text = (group-text-sets (certificate_records bytes) e m group demand text).1
+
+-- what was taken was read
+pub taken_was_read : {T E : Type 0} (P : T → Type 0) (why : E → Unanswered) (read : Result T E) (taken : Result T Unanswered)
+    (value : T) → MatchResult read (λ v. taken ≡ Ok v) (λ refusal. taken ≡ Err (why refusal)) → taken ≡ Ok value
+    → IfOk read P → P value
+taken_was_read P why (Ok v) taken value given is holds = let same : v ≡ value = cc in subst P same holds
+taken_was_read P why (Err refusal) taken value given is holds = absurd cc
 
 -- the outcome that is audited, by the outcome file that was taken, or by the election's own
 pub file_audited : (e : Instance) (outcome : Option Delivery) (d : Delivery) (taken : Result (List Bool) Unanswered)

@@ -22,7 +22,7 @@ pub use table::Table;
 pub use taking::{
     decided_of, election_of, kind_in, refutation_of, take_decided, take_election, violation_of,
 };
-pub use unanswered::{Unanswered, unanswered_at};
+pub use unanswered::{Unanswered, taken_as, unanswered_at};
 pub use verdict_lines::{
     groups_line, groups_status, price_line, price_status, refutation_line, refutation_status,
     violation_line, violation_status,

@@ -12,10 +12,10 @@ ghost use Rattle.pb_reply.specs.Inside.Taking.{AuditsOutcome, Gives, GivesOutcom
 
 use crate::given::{AsFile, Given};
 use crate::loaded::{File, bytes_of};
-use crate::unanswered::{Unanswered, unanswered_at};
+use crate::unanswered::{Unanswered, taken_as};
 use pb_certificate::{Kind, Refutation, Violation, kind_of, read_outcome};
 use pb_election::{DecidedElection, Election, Outcome};
-use pb_input::{InputFault, InputName};
+use pb_input::InputName;
 use std::alloc::{AllocError, Global};
 
 /// The election that a file states.
@@ -23,10 +23,7 @@ pub fn election_of(alloc: Global, file: File<'_>) -> Result<Election, Unanswered
     ensures { IfTaken result (StatesElection (lent file.entry)) }
 {
     let bytes = bytes_of(InputName::Election, file)?;
-    match Election::read(alloc, bytes) {
-        Ok(election) => Ok(election),
-        Err(refusal) => Err(unanswered_at(InputName::Election, InputFault::Election(refusal))),
-    }
+    Ok(Election::read(alloc, bytes)?)
 }
 
 /// As which kind a certificate is taken. One that wasn't read whole is taken as prices.
@@ -52,10 +49,7 @@ pub fn violation_of(
     ensures demand { IfOk result (λ violation. IsSet 1 (projects election.now) violation.demand) }
 {
     let bytes = bytes_of(input, file)?;
-    match Violation::read(alloc, bytes, election) {
-        Ok(violation) => Ok(violation),
-        Err(refusal) => Err(unanswered_at(input, InputFault::Certificate(refusal))),
-    }
+    taken_as(input, Violation::read(alloc, bytes, election))
 }
 
 /// The refutation for an election that a file states, as the certificate.
@@ -68,13 +62,10 @@ pub fn refutation_of(
     ensures fits { IfOk result (λ refutation. WeightsFit refutation election.now) }
 {
     let bytes = bytes_of(InputName::Certificate, file)?;
-    match Refutation::read(alloc, bytes, election) {
-        Ok(refutation) => Ok(refutation),
-        Err(refusal) => Err(unanswered_at(
-            InputName::Certificate,
-            InputFault::Certificate(refusal),
-        )),
-    }
+    taken_as(
+        InputName::Certificate,
+        Refutation::read(alloc, bytes, election),
+    )
 }
 
 /// The election with the outcome that is audited: that of the outcome file where one is given, and else its own.
@@ -111,10 +102,7 @@ fn outcome_in(alloc: Global, file: File<'_>, election: &Election) -> Result<Outc
     ensures fits { IfOk result (λ outcome. OutcomeFits outcome election.now) }
 {
     let bytes = bytes_of(InputName::Outcome, file)?;
-    match read_outcome(alloc, bytes, election) {
-        Ok(outcome) => Ok(outcome),
-        Err(refusal) => Err(unanswered_at(InputName::Outcome, InputFault::Certificate(refusal))),
-    }
+    taken_as(InputName::Outcome, read_outcome(alloc, bytes, election))
 }
 
 /// The outcome that the election itself states.
@@ -122,10 +110,7 @@ fn own_outcome(alloc: Global, election: &Election) -> Result<Outcome, Unanswered
     ensures taken { IfTaken (as_marks result) (λ stated. stated ≡ its_outcome (election.now).selected) }
     ensures fits { IfOk result (λ outcome. OutcomeFits outcome election.now) }
 {
-    match Outcome::selected(alloc, election) {
-        Ok(outcome) => Ok(outcome),
-        Err(refusal) => Err(unanswered_at(InputName::Election, InputFault::Election(refusal))),
-    }
+    Ok(Outcome::selected(alloc, election)?)
 }
 
 /// The election of an input, whose turn has come. What was taken of it is let go.

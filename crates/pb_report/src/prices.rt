@@ -10,11 +10,11 @@ ghost use Rattle.pb_reply.specs.Lines.{price_line};
 ghost use Rattle.pb_reply.specs.Replies.{price_status};
 
 use pb_election::{DecidedElection, Election};
-use pb_input::{InputFault, InputName};
+use pb_input::InputName;
 use pb_price::{
     Findings, Margins, Mode, NearestGroup, OnGroups, Verdict, findings_and_margins_of, nearest_to,
 };
-use pb_reply::{File, Status, Unanswered, bytes_of, price_line, price_status, unanswered_at};
+use pb_reply::{File, Status, Unanswered, bytes_of, price_line, price_status, taken_as};
 use std::alloc::{AllocError, Global};
 
 /// What is found of prices, in a mode: Peters, Pierczyński and Skowron (2021) define the conditions.
@@ -76,15 +76,14 @@ pub fn prices_in(
     ensures nearest { IfOk result (λ prices. prices.nearest ≡ None) }
 {
     let bytes = bytes_of(input, certificate)?;
-    match findings_and_margins_of(alloc, decided.election(), decided.outcome(), bytes) {
-        Ok((findings, margins)) => Ok(PricesFound {
-            mode,
-            findings,
-            margins,
-            nearest: None,
-        }),
-        Err(refusal) => Err(unanswered_at(input, InputFault::Certificate(refusal))),
-    }
+    let read = findings_and_margins_of(alloc, decided.election(), decided.outcome(), bytes);
+    let (findings, margins) = taken_as(input, read)?;
+    Ok(PricesFound {
+        mode,
+        findings,
+        margins,
+        nearest: None,
+    })
 }
 
 /// What is found of the prices that a certificate states, and where they are a yes the group that comes nearest to what

@@ -62,14 +62,9 @@ pub fn canonical_text_of(
 {
     let rows = Rows::open(alloc, bytes, election)?;
     let voters = election.voters();
-    let Ok(mut draft) = CanonicalDraft::new(alloc, election, rows.denominator(), rows.budget())
-    else {
-        return Err(CertRefusal::NO_MEMORY);
-    };
+    let mut draft = CanonicalDraft::new(alloc, election, rows.denominator(), rows.budget())?;
     gather(alloc, rows, voters, &mut draft)?;
-    let Ok(text) = draft.into_text() else {
-        return Err(CertRefusal::NO_MEMORY);
-    };
+    let text = draft.into_text()?;
     Ok(text)
 }
 

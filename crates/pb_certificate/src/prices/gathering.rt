@@ -82,9 +82,7 @@ fn add_all<L: PaymentSink>(mut rows: Rows, sink: &mut L, turn: &mut Turn) -> Res
         let Some(row) = row else {
             return Ok(());
         };
-        let Ok(()) = turn.add(sink, row) else {
-            return Err(CertRefusal::NO_MEMORY);
-        };
+        turn.add(sink, row)?;
     }
 }
 
@@ -107,8 +105,6 @@ pub fn gather<L: PaymentSink>(
         payments: Vec::new(alloc),
     };
     add_all(rows, sink, &mut turn)?;
-    let Ok(()) = turn.close_up_to(sink, voters) else {
-        return Err(CertRefusal::NO_MEMORY);
-    };
+    turn.close_up_to(sink, voters)?;
     Ok(())
 }

@@ -8,13 +8,12 @@ use pb_records::{Cursor, Next};
 pub fn next_record(cursor: &mut Cursor) -> Result<bool, CertRefusal>
     ensures { Comes cursor.old cursor.new result }
 {
-    match cursor.advance() {
-        Ok(Next::Record) => Ok(true),
-        Ok(Next::End) => Ok(false),
-        Ok(Next::NotText) => Err(CertRefusal {
+    match cursor.advance()? {
+        Next::Record => Ok(true),
+        Next::End => Ok(false),
+        Next::NotText => Err(CertRefusal {
             fault: CertFault::NotUtf8,
             record_number: cursor.record_number(),
         }),
-        Err(_) => Err(CertRefusal::NO_MEMORY),
     }
 }

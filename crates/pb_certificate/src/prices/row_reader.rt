@@ -49,9 +49,7 @@ impl<'a> RowReader<'a> {
             denominator,
             budget,
         } = read_head(&mut cursor)?;
-        let Ok(prior) = PriorRows::new(alloc, election.projects()) else {
-            return Err(CertRefusal::NO_MEMORY);
-        };
+        let prior = PriorRows::new(alloc, election.projects())?;
         Ok(RowReader {
             bytes,
             election,

@@ -8,7 +8,7 @@ use crate::CertRefusal;
 use crate::prices::row::PriceRow;
 use crate::prices::row_reader::RowReader;
 use pb_election::Election;
-use std::alloc::Global;
+use std::alloc::{AllocError, Global};
 use std::marker::Model;
 
 /// A reader of the rows of a price certificate, which goes over the bytes once and keeps no payments. It stands at a
@@ -49,9 +49,7 @@ impl<'a> Rows<'a> {
         ensures in_head { IfErr result (λ r. IsInHead (certificate_records bytes.now) r) }
     {
         let reader = RowReader::open(alloc, bytes, election)?;
-        let Ok(reader) = Box::new(alloc, reader) else {
-            return Err(CertRefusal::NO_MEMORY);
-        };
+        let reader = Box::new(alloc, reader).map_err(AllocError::from)?;
         Ok(Rows { reader })
     }
 

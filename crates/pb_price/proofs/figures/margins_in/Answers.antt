@@ -17,4 +17,4 @@ returns-clause-found c p is tally =
     let grains = ap (λ n. 1000000 * n) c.from-grains_per_unit.ensures in
     let sums = subst (λ xs. AreSums e p xs) (sym c.deref.ensures.value) tally.sums in
     margins-are e c.args.outcome.now.marks p c.args.taken.now.denominator c.deref.result.now _ is sums grains
-    c.in-Ok.ensures
+    c.in_ok-projects.ensures

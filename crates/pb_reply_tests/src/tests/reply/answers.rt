@@ -1,13 +1,13 @@
 //! Replies, and the texts that are made of them.
 use crate::tests::lines::expect_lines;
 use crate::tests::refusals::{in_certificate, in_election, refused};
-use pb_certificate::CertFault;
+use pb_certificate::{CertFault, CertRefusal};
 use pb_cohesion::ViolationFailure;
 use pb_election::ElectionFault;
 use pb_input::{InputFault, InputName};
 use pb_reply::{
     Answer, Fault, Format, FromReply, InFormats, Reply, Status, Table, Unmet, one_line, or_refusal,
-    reply_why, unanswered_at,
+    reply_why, taken_as, unanswered_at,
 };
 use std::alloc::{AllocError, Global};
 use std::process::Abort;
@@ -102,6 +102,29 @@ fn what_stopped_the_work_is_told_in_a_line(rt: HostRuntime) -> Result<(), Fail> 
     let status = refused(InputName::Folder, InputFault::Unread);
     let text = "refused folder 18 Read record 0\n";
     expect_answer(&rt, &answer, text, status);
+    Ok(())
+}
+
+#[test]
+fn what_was_read_is_taken_as_the_input_of_its_name(rt: HostRuntime) -> Result<(), Fail> {
+    let alloc = rt.alloc();
+    assert!(rt; matches!(taken_as(InputName::Outcome, Ok(7)), Ok(7)));
+    let refusal = CertRefusal {
+        fault: CertFault::OutOfOrder,
+        record_number: 6,
+    };
+    for (input, line) in [
+        (InputName::Outcome, "refused outcome 26 OutOfOrder record 6"),
+        (
+            InputName::Violation,
+            "refused violation 26 OutOfOrder record 6",
+        ),
+    ] {
+        let Err(why) = taken_as::<u32>(input, Err(refusal)) else {
+            panic!(rt; "{line}");
+        };
+        expect_lines(&rt, &reply_why(alloc, &why)?.lines, &[line]);
+    }
     Ok(())
 }
 

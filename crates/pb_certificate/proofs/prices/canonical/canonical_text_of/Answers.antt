@@ -36,7 +36,7 @@ returns-clause-found c =
     record {
       prices = gathered.prices;
       states = states.0;
-      is = c.in-Ok-into_text.ensures e gathered.prices states.1 (states-prices recs e gathered.prices states.0).fits;
+      is = c.in_ok-text.ensures e gathered.prices states.1 (states-prices recs e gathered.prices states.0).fits;
     }
 
 pub returns-clause-only : goal.returns-clause-only

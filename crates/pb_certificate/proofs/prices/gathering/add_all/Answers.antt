@@ -22,4 +22,4 @@ gather-preserved g c =
     c.in_ok-behind.ensures.row in
     gathers-row (g.L.PaymentSink.Has c.gather.sink) (g.L.PaymentSink.Has c.add.new.sink) c.args.rows s c.in_ok-behind.behind
     c.gather.turn c.add.new.self c.in-Some.row c.gather.invariant row
-    (λ high fresh few. c.in-Ok.ensures.holds s (given s) c.gather.invariant.holds high fresh few) c.in-Ok.ensures.done
+    (λ high fresh few. c.in_ok-add.ensures.holds s (given s) c.gather.invariant.holds high fresh few) c.in_ok-add.ensures.done

@@ -10,5 +10,5 @@ add_all-requires-clause-holds g c =
 pub returns-clause-all : goal.returns-clause-all
 returns-clause-all g c =
     all-gathered (g.L.PaymentSink.Has c.add_all.new.sink) (g.L.PaymentSink.Has c.close_up_to.new.sink) c.args.rows
-    c.add_all.new.turn c.close_up_to.new.self c.args.voters c.in_ok-add_all.ensures.all c.in-Ok.ensures.holds
-    c.in-Ok.ensures.done c.requires.voters
+    c.add_all.new.turn c.close_up_to.new.self c.args.voters c.in_ok-add_all.ensures.all c.in_ok-close_up_to.ensures.holds
+    c.in_ok-close_up_to.ensures.done c.requires.voters

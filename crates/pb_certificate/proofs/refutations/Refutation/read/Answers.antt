@@ -1,10 +1,8 @@
-use Rattle.std.proofs.Common.{◌≡◌, ◌∙◌, subst, sym}
-use Rattle.std.specs.Prelude.{◌⊎◌}
-use Rattle.pb_certificate.specs.Faults.{Refuses, certificate_records, no_memory, refutation_form}
+use Rattle.std.proofs.lemmas.Result.{err_from_is_err_and}
+use Rattle.pb_certificate.specs.Faults.{certificate_records, refutation_form}
 use Rattle.pb_certificate.specs.Inside.Refutations.{refutation_had}
 use Rattle.pb_certificate.specs.Refutations.{Weights}
 use Rattle.pb_certificate.specs.Refutations.Text.{IsRefutationText}
-use Rattle.pb_certificate.specs.declared.refusal.CertRefusal.{CertRefusal}
 use Rattle.pb_certificate.proofs.Ends.{stop-is-memory, stop-refuses}
 use Rattle.pb_certificate.proofs.OnRefutations.Clear.{refutation-clear}
 use Rattle.pb_certificate.proofs.OnRefutations.Answered.{states-weights}
@@ -20,41 +18,43 @@ own-text : (c : goal.After-into_weights-cover)
 unfolding refutation_form
 own-text c =
     states-weights c.args.election.now (refutation_had c.take_all.new.draft) (certificate_records c.args.bytes.now)
-    c.into_weights-cover.result.0 c.into_weights-cover.result.1.items c.in-Ok-take_all.ensures.taken
-    c.in-Ok-take_all.ensures.none c.into_weights-cover.ensures.cover c.into_weights-cover.ensures.rows
+    c.into_weights-cover.result.0 c.into_weights-cover.result.1.items c.in_ok-take_all.ensures.taken
+    c.in_ok-take_all.ensures.none c.into_weights-cover.ensures.cover c.into_weights-cover.ensures.rows
 
 pub invariant_of-result : goal.invariant_of-result
 unfolding refutation_form
 invariant_of-result c = are-weights (certificate_records c.args.bytes.now) c.args.election.now (read-weights c) (own-text c)
 
-pub returns-in-Ok-take_all-clause-found : goal.returns-in-Ok-take_all-clause-found
+pub returns-clause-found : goal.returns-clause-found
 unfolding refutation_form
-returns-in-Ok-take_all-clause-found c = own-text c
+returns-clause-found c = own-text c
 
-pub returns-in-Ok-take_all-clause-fits : goal.returns-in-Ok-take_all-clause-fits
+pub returns-clause-fits : goal.returns-clause-fits
 unfolding refutation_form
-returns-in-Ok-take_all-clause-fits c =
+returns-clause-fits c =
     weights-fit (certificate_records c.args.bytes.now) c.args.election.now (read-weights c) (own-text c)
 
-pub returns-in-Ok-take_all-clause-only : goal.returns-in-Ok-take_all-clause-only
+pub returns-clause-only : goal.returns-clause-only
 unfolding refutation_form
-returns-in-Ok-take_all-clause-only c = λ w text. (
+returns-clause-only c = λ w text. (
     refutation-text-same (certificate_records c.args.bytes.now) c.args.election.now (read-weights c) w (own-text c) text
     )
 
-pub returns-in-Err-clause-only : goal.returns-in-Err-clause-only
+pub returns-in_err-take_all-clause-only : goal.returns-in_err-take_all-clause-only
 unfolding refutation_form
-returns-in-Err-clause-only c = λ w text. (
+returns-in_err-take_all-clause-only c = λ w text. (
     let recs = certificate_records c.args.bytes.now in
     let e = c.args.election.now in
-    c.of.ensures ∙ stop-is-memory (refutation_form e) recs c.in-Err.stop c.in-Err.ensures.stopped
-    (λ f. refutation-clear recs e w text f.record_number f.fault)
+    let err = err_from_is_err_and c.from_residual-in_err-take_all.result c.from_residual-in_err-take_all.ensures.1 in
+    rw (err.1, err.2)
+    (stop-is-memory (refutation_form e) recs c.in_err-take_all.field-0.0 c.in_err-take_all.ensures.stopped
+    (λ f. refutation-clear recs e w text f.record_number f.fault))
     )
 
-pub returns-in-Err-clause-refused : goal.returns-in-Err-clause-refused
+pub returns-in_err-take_all-clause-refused : goal.returns-in_err-take_all-clause-refused
 unfolding refutation_form
-returns-in-Err-clause-refused c =
-    let form = refutation_form c.args.election.now in
-    let bytes = c.args.bytes.now in
-    subst (λ (r : CertRefusal). (r ≡ no_memory) ⊎ Refuses form bytes r) (sym c.of.ensures)
-    (stop-refuses form (certificate_records bytes) c.in-Err.stop c.in-Err.ensures.stopped)
+returns-in_err-take_all-clause-refused c =
+    let err = err_from_is_err_and c.from_residual-in_err-take_all.result c.from_residual-in_err-take_all.ensures.1 in
+    rw (err.1, err.2)
+    (stop-refuses (refutation_form c.args.election.now) (certificate_records c.args.bytes.now) c.in_err-take_all.field-0.0
+    c.in_err-take_all.ensures.stopped)

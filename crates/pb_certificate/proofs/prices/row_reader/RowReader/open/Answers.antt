@@ -23,8 +23,8 @@ returns-clause-reading c =
       payments = [];
       taken = read.1.taken;
       stands = read.1.stands;
-      remembers = c.in-Ok.ensures.remembers;
-      each_project = c.in-Ok.ensures.projects ∙ c.projects.ensures.value;
+      remembers = c.in_ok-prior.ensures.remembers;
+      each_project = c.in_ok-prior.ensures.projects ∙ c.projects.ensures.value;
     }
 
 pub returns-clause-none_given : goal.returns-clause-none_given
