@@ -76,8 +76,18 @@ print("\n".join(said))
 """
 
 
-# Runs edits.py as a machine does that has more than enough memory.
-AMPLE = "import sys; sys.path.insert(0, sys.argv.pop(1)); import edits; edits.free_memory = lambda: 10**12; sys.exit(edits.main())"
+# Runs edits.py as a machine does that has more than enough memory, and notes of which crates the edits are to be tried.
+AMPLE = """import os, sys
+sys.path.insert(0, sys.argv.pop(1))
+import edits
+edits.free_memory = lambda: 10**12
+begin = edits.Trial.begin
+def noted(trial, new):
+    begin(trial, new)
+    open(f"{os.environ['STATE']}/{trial.crate}.begun", "w").close()
+edits.Trial.begin = noted
+sys.exit(edits.main())
+"""
 
 
 class Repository:
@@ -172,7 +182,7 @@ def test_edits_that_are_tried_alone_meet_one_another(repository, low, high):
 def test_largest_first(repository):
     """While the first edit of low is tried, high is proved, which is larger: so its edit goes before the rest. Edits in no
     function's body are tried one by one, and of the whole crate."""
-    made = repository(low={"a": "waits for high.proved", "b": "wrong"}, high={"c": "wrong"})
+    made = repository(low={"a": "waits for high.begun", "b": "wrong"}, high={"c": "wrong"})
     for name in ("a", "b"):
         file = made.copy / f"crates/low/must-fail/{name}.edit"
         file.write_text(file.read_text() + "old: pub fn other\nnew: pub fn  other\n")

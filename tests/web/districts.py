@@ -6,11 +6,15 @@ import costs
 from tables import EXAMPLES
 
 MANY = 300
+# It is asked in the page, where that costs next to nothing.
 ARE_DONE = """
-return document.querySelectorAll('#audit-list > li').length === arguments[0] && document.querySelector('#work').hidden
+const areDone = () => document.querySelectorAll('#audit-list > li').length === arguments[0] && document.querySelector('#work').hidden
   && !document.querySelector('[data-state=waiting], [data-state=running]');
+return new Promise(done => {
+  const look = () => areDone() ? done(true) : setTimeout(look, 50);
+  look();
+});
 """
-LONGEST_SECONDS = 120
 
 
 def write(folder):
@@ -26,7 +30,5 @@ def cost(browser, folder):
     """Seconds by the clock, from the choice of the folder until all are answered, and seconds of processors."""
     spent, begun = costs.seconds_of(browser), time.monotonic()
     browser.give_folder("#folder-input", folder)
-    while not browser.ask(ARE_DONE, MANY):
-        assert time.monotonic() < begun + LONGEST_SECONDS, "the districts aren't answered"
-        time.sleep(0.05)
+    browser.ask(ARE_DONE, MANY)
     return time.monotonic() - begun, costs.seconds_of(browser) - spent

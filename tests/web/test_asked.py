@@ -153,6 +153,7 @@ def test_options_after_a_search(opened):
     show(opened, EXAMPLES / "district.pb")
     look(opened)
     opened.browser.wait("return document.querySelector('.made')", "the prices")
+    assert row(opened, "district.found.prices.csv")[:3] == ["Yes", "Fair by prices", USUAL]
     assert "when something else was asked" not in opened.text("#looked")
     opened.browser.click("#stable")
     assert row(opened, "district.found.prices.csv")[:3] == ["Yes", "Fair by prices", USUAL]

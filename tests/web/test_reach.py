@@ -9,6 +9,7 @@ from visiting import sentence
 
 pytestmark = pytest.mark.parametrize("address", ["disk", "server"], indirect=True)
 MOST_TABS = 40
+IS_IN_FRAME = "return document.querySelector('#frame').contentDocument?.body?.textContent.includes(arguments[0])"
 # What a browser would show of its own is noted instead.
 NOTE_CHOOSING = "document.querySelector('#files-input').click = () => { window.isAsked = true; };"
 NOTE_PRINTING = "document.querySelector('#frame').contentWindow.print = () => { window.isPrinted = true; };"
@@ -71,6 +72,7 @@ def test_keyboard(opened):
     assert opened.shown() == wanted
     tab_to(opened, "#save")
     assert saved(opened.browser, lambda: opened.browser.press(browsers.ENTER), "sample.prices.html").read_text() == wanted
+    opened.browser.wait(IS_IN_FRAME, "the answer in the frame", "--no-exhaustive")
     opened.browser.ask(NOTE_PRINTING)
     tab_to(opened, "#print")
     opened.browser.press(browsers.SPACE)
