@@ -57,7 +57,8 @@ TESTS = {
     "pb_command_tests": ("tests::command::",),
     "pb_json_tests": ("tests::",),
     "pb_reply_tests": ("tests::explain::", "tests::reply::"),
-    "pb_audit_tests": ("tests::folders::", "tests::in_turn::each_answer_", "tests::in_turn::each_command_"),
+    "pb_audit_tests": ("tests::folders::",),
+    "pb_in_turn_tests": ("tests::in_turn::each_answer_", "tests::in_turn::each_command_"),
     "pb_page_tests": ("tests::answers::", "tests::groups::", "tests::names::"),
 }  # fmt: skip
 # How such a test ends out of memory: by the call, or by the writer into memory that the test gives it.

@@ -1,8 +1,5 @@
-//! What is answered on files in memory and printed on what readers give, once by each call, and what only readers and
-//! writers can show that fail. What else the answers are is tried from outside, in `tests/` at the top.
-mod commands;
+//! What is reported on folders and on groups, what is found as values, and the calls that load and write bytes.
 mod failing;
 mod folders;
 mod groups;
-mod in_turn;
 mod reports;
